@@ -1,0 +1,13 @@
+pub mod Languages
+pub mod Moves
+pub mod Complete
+pub mod Sound
+pub mod Beginnings
+pub mod Limits
+pub mod Walks
+pub mod Derivations
+pub mod Advances
+pub mod Operands
+pub mod Chains
+pub mod WholeTexts
+pub mod Rebuilt

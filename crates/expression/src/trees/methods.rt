@@ -1,0 +1,79 @@
+//! Reading the texts of a contract.
+ghost use mathlib.Core.Path.{_≡_};
+ghost use lib.ListN.{length};
+ghost use Rattle.expression.specs.Held.{read-tree, write-tree, reading-of, Laid-out};
+ghost use Rattle.expression.specs.Reading.{read-contract};
+ghost use Rattle.expression.specs.Tables.{leaves};
+ghost use Rattle.std.specs.Vec.{made};
+use crate::parser::read_text;
+use crate::tables::Letters;
+use crate::tables::MAX_TEXT;
+use crate::texts::Text;
+use crate::texts::TextRefusal;
+use crate::trees::Trees;
+use lexer::refusal::Reason;
+use lexer::refusal::Refusal;
+
+/// The refusal, as one of this text.
+fn in_text(refusal: Refusal, text: Text) -> TextRefusal
+    ensures { λ r. ⌜ r ≡ record { reason = refusal .reason; text = text; place = refusal .place } ⌝ }
+{
+    TextRefusal {
+        reason: refusal.reason,
+        text,
+        place: refusal.place,
+    }
+}
+
+impl Trees {
+    /// Reads a contract's two texts.
+    pub fn parse(read: &[u8], write: &[u8]) -> Result<Trees, TextRefusal>
+        ensures reading { λ r. ⌜ reading-of r ≡ read-contract (now (read .entry)) (now (write .entry)) ⌝ }
+        ensures laid { λ r. ⌜ made r Laid-out ⌝ }
+    {
+        if read.len() > MAX_TEXT {
+            return Err(TextRefusal {
+                reason: Reason::Long,
+                text: Text::Read,
+                place: 0,
+            });
+        }
+        if write.len() > MAX_TEXT {
+            return Err(TextRefusal {
+                reason: Reason::Long,
+                text: Text::Write,
+                place: 0,
+            });
+        }
+        let mut letters = Letters::new();
+        let reads = match read_text(read, &mut letters) {
+            Ok(reads) => reads,
+            Err(refusal) => return Err(in_text(refusal, Text::Read)),
+        };
+        let read_letters = letters.len();
+        let writes = match read_text(write, &mut letters) {
+            Ok(writes) => writes,
+            Err(refusal) => return Err(in_text(refusal, Text::Write)),
+        };
+        Ok(Trees {
+            read: reads,
+            write: writes,
+            letters,
+            read_letters,
+        })
+    }
+
+    /// How many letters the read text has.
+    pub fn read_letters(&self) -> usize
+        ensures { λ r. ⌜ r ≡ length (leaves (read-tree (now (self .entry)))) ⌝ }
+    {
+        self.read_letters
+    }
+
+    /// How many letters the write text has.
+    pub fn write_letters(&self) -> usize
+        ensures { λ r. ⌜ r ≡ length (leaves (write-tree (now (self .entry)))) ⌝ }
+    {
+        self.letters.len() - self.read_letters
+    }
+}

@@ -1,0 +1,4 @@
+pub mod Table
+pub mod Spelling
+pub mod Fronts
+pub mod Rows
