@@ -10,4 +10,6 @@ pub mod Advances
 pub mod Operands
 pub mod Chains
 pub mod WholeTexts
+pub mod Formed
 pub mod Rebuilt
+pub mod Tabled

@@ -1,7 +1,8 @@
 -- The operations and the letters of a tree make that tree.
 use mathlib.Core.Path.{_≡_, refl, sym, ap, _∙_}
+use mathlib.Core.Bool.{true}
 use mathlib.Core.List.{List, [], _∷_, _++_, append-nil, append-assoc, map}
-use Prim.Native.Nat.{ℕ, _+_, _<_, _≤_}
+use Prim.Native.Nat.{ℕ, _-_, _<_, _≤_}
 use native.Mathlib.Omega.{arith}
 use lib.ListN.{length, take, drop, length-append}
 use Rattle.std.proofs.shelf.Lists.{length-map, length-take-le, take-append-le, drop-append-le, take-all, drop-all}
@@ -9,7 +10,8 @@ use Rattle.std.proofs.shelf.Tests.{le-leb, lt-leb}
 use Rattle.expression.specs.Expressions.{Letter, Expr, empty, letter, alternative, sequence, star}
 use Rattle.expression.specs.Parsing.{Whole}
 use Rattle.expression.specs.Reading.{trees, refusal, with-write, then-write, read-text, read-contract, Outcome, refused}
-use Rattle.expression.specs.Tables.{letter-of, operations-of, letters-of, postfix, leaves, build, built}
+use Rattle.expression.specs.Tables.{letter-of, operations-of, letters-of, postfix, leaves, build, built, formed}
+use Rattle.expression.proofs.Formed.{tree-formed}
 use Rattle.expression.specs.declared.operation.Operation.{Operation}
 use Rattle.expression.specs.declared.operation.Operation.the-variants as operation
 use Rattle.expression.specs.Texts.{text-number}
@@ -75,22 +77,19 @@ module _ {read write : List ℕ} {l m k : Letters} {o u : Postfix} (none : lette
   pub write-built : built u (drop n (letters-of k)) ≡ writes .tree
   write-built = (λ i. build (writes .operations i) (back-part _ _ _ n all-letters first-count i) []) ∙ rebuilt (writes .tree)
 
-  pub reads-counted : length (leaves (built o (take n (letters-of k)))) ≡ n
-  reads-counted = ap (λ e. length (leaves e)) read-built ∙ sym first-count
+  pub reads-formed : formed (operations-of o) n 0 ≡ true
+  reads-formed = (λ i. formed (reads .operations i) (first-count i) 0) ∙ tree-formed (reads .tree)
 
-  pub writes-counted : n + length (leaves (built u (drop n (letters-of k)))) ≡ k .used
-  writes-counted =
+  pub few-reads : n ≤ k .used
+  few-reads =
       let sum = ap length all-letters ∙ length-append (leaves (reads .tree)) (leaves (writes .tree)) in
-      ap (λ e. n + length (leaves e)) write-built ∙ omega (arith, first-count, sum, letters-count k)
+      omega (arith, first-count, sum, letters-count k)
 
-  pub laid-reads : operations-of o ≡ postfix (built o (take n (letters-of k)))
-  laid-reads = reads .operations ∙ ap postfix (sym read-built)
-
-  pub laid-writes : operations-of u ≡ postfix (built u (drop n (letters-of k)))
-  laid-writes = writes .operations ∙ ap postfix (sym write-built)
-
-  pub laid-letters : letters-of k ≡ leaves (built o (take n (letters-of k))) ++ leaves (built u (drop n (letters-of k)))
-  laid-letters = all-letters ∙ (λ i. leaves (sym read-built i) ++ leaves (sym write-built i))
+  pub writes-formed : formed (operations-of u) (k .used - n) 0 ≡ true
+  writes-formed =
+      let sum = ap length all-letters ∙ length-append (leaves (reads .tree)) (leaves (writes .tree)) in
+      let left : k .used - n ≡ length (leaves (writes .tree)) = omega (arith, first-count, sum, letters-count k) in
+      (λ i. formed (writes .operations i) (left i) 0) ∙ tree-formed (writes .tree)
 
 -- a text that is too long, or that is refused
 pub read-long : (read write : List ℕ) → 400 < length read → refusal Long 1 0 ≡ read-contract read write

@@ -1,6 +1,8 @@
 -- Trees as operations in postfix order and a row of letters.
+use mathlib.Core.Bool.{Bool, _&&_}
 use mathlib.Core.List.{List, [], _∷_, _++_, map}
-use Prim.Native.Nat.{ℕ}
+use Prim.Native.Nat.{ℕ, _+_, _-_}
+use lib.Dec.{leb, eqb}
 use lib.ListN.{take}
 use Rattle.lexer.specs.Spelled.{spelled}
 use Rattle.expression.specs.Expressions.{Letter, any, named, Expr, empty, letter, alternative, sequence, star}
@@ -54,6 +56,15 @@ build (operation.Sequence ∷ os) ls (b ∷ []) = empty
 build (operation.Sequence ∷ os) ls (b ∷ (a ∷ es)) = build os ls (sequence a b ∷ es)
 build (operation.Star ∷ os) ls [] = empty
 build (operation.Star ∷ os) ls (a ∷ es) = build os ls (star a ∷ es)
+
+-- operations that make one operand of so many letters, where so many operands lie already
+unfoldable pub formed : List Operation → ℕ → ℕ → Bool
+formed [] letters height = eqb letters 0 && eqb height 1
+formed (operation.Empty ∷ os) letters height = formed os letters (height + 1)
+formed (operation.Letter ∷ os) letters height = leb 1 letters && formed os (letters - 1) (height + 1)
+formed (operation.Alternative ∷ os) letters height = leb 2 height && formed os letters (height - 1)
+formed (operation.Sequence ∷ os) letters height = leb 2 height && formed os letters (height - 1)
+formed (operation.Star ∷ os) letters height = leb 1 height && formed os letters height
 
 -- the tree that a table's operations make of letters
 abbrev pub built : Postfix → List Letter → Expr

@@ -1,8 +1,8 @@
 //! The trees of a contract's two texts.
 ghost use mathlib.Core.Path.{_≡_};
-ghost use Prim.Native.Nat.{_+_};
-ghost use lib.ListN.{length, take, drop};
-ghost use Rattle.expression.specs.Tables.{letters-of, leaves, built};
+ghost use mathlib.Core.Bool.{true};
+ghost use Prim.Native.Nat.{_-_, _≤_};
+ghost use Rattle.expression.specs.Tables.{operations-of, formed};
 use crate::tables::Letters;
 use crate::tables::Postfix;
 
@@ -15,6 +15,7 @@ pub struct Trees {
     write: Postfix,
     letters: Letters,
     read_letters: usize,
-    ghost reads: { length (leaves (built read (take «read_letters» (letters-of letters)))) ≡ «read_letters» },
-    ghost writes: { «read_letters» + length (leaves (built write (drop «read_letters» (letters-of letters)))) ≡ letters .used },
+    ghost few: { «read_letters» ≤ letters .used },
+    ghost reads: { formed (operations-of read) «read_letters» 0 ≡ true },
+    ghost writes: { formed (operations-of write) (letters .used - «read_letters») 0 ≡ true },
 }

@@ -1,8 +1,8 @@
 //! Adding to the tables.
 ghost use mathlib.Core.Bool.{true, false, cond};
-ghost use mathlib.Core.List.{[], _∷_, _++_};
+ghost use mathlib.Core.List.{[], _∷_, _++_, map};
 ghost use mathlib.Core.Path.{_≡_};
-ghost use Prim.Native.Nat.{_+_, _<_};
+ghost use Prim.Native.Nat.{_+_, _<_, _≤_};
 ghost use lib.Dec.{ltb};
 ghost use lib.ListN.{length};
 ghost use Rattle.expression.specs.Tables.{operations-of, letters-of, letter-of};
@@ -36,7 +36,25 @@ impl Postfix {
     }
 }
 
+impl Postfix {
+    /// The operations of the table.
+    pub(crate) fn as_slice(&self) -> &[Operation]
+        ensures operations { λ r. ⌜ now r ≡ operations-of (now (self .entry)) ⌝ }
+        ensures short { λ r. ⌜ length (now r) ≤ 400 ⌝ }
+    {
+        &self.operations[0..self.used]
+    }
+}
+
 impl Letters {
+    /// The letters of the table.
+    pub(crate) fn as_slice(&self) -> &[Letter]
+        ensures letters { λ r. ⌜ map letter-of (now r) ≡ letters-of (now (self .entry)) ⌝ }
+        ensures few { λ r. ⌜ length (now r) ≤ 62 ⌝ }
+    {
+        &self.table[0..self.used]
+    }
+
     /// A table with no letter.
     pub(crate) fn new() -> Letters
         ensures letters { λ r. ⌜ letters-of r ≡ [] ⌝ }

@@ -1,10 +1,13 @@
 //! Reading the texts of a contract.
 ghost use mathlib.Core.Path.{_≡_};
+ghost use mathlib.Core.List.{map, _++_};
+ghost use Prim.Native.Nat.{_≤_};
 ghost use lib.ListN.{length};
-ghost use Rattle.expression.specs.Held.{read-tree, write-tree, reading-of, Laid-out};
+ghost use Rattle.expression.specs.Held.{read-tree, write-tree, reading-of};
 ghost use Rattle.expression.specs.Reading.{read-contract};
-ghost use Rattle.expression.specs.Tables.{leaves};
-ghost use Rattle.std.specs.Vec.{made};
+ghost use Rattle.expression.specs.Tables.{postfix, leaves, letter-of};
+use crate::letter::Letter;
+use crate::operation::Operation;
 use crate::parser::read_text;
 use crate::tables::Letters;
 use crate::tables::MAX_TEXT;
@@ -28,8 +31,7 @@ fn in_text(refusal: Refusal, text: Text) -> TextRefusal
 impl Trees {
     /// Reads a contract's two texts.
     pub fn parse(read: &[u8], write: &[u8]) -> Result<Trees, TextRefusal>
-        ensures reading { λ r. ⌜ reading-of r ≡ read-contract (now (read .entry)) (now (write .entry)) ⌝ }
-        ensures laid { λ r. ⌜ made r Laid-out ⌝ }
+        ensures { λ r. ⌜ reading-of r ≡ read-contract (now (read .entry)) (now (write .entry)) ⌝ }
     {
         if read.len() > MAX_TEXT {
             return Err(TextRefusal {
@@ -75,5 +77,29 @@ impl Trees {
         ensures { λ r. ⌜ r ≡ length (leaves (write-tree (now (self .entry)))) ⌝ }
     {
         self.letters.len() - self.read_letters
+    }
+
+    /// The operations of the read text's tree, in postfix order.
+    pub fn read_operations(&self) -> &[Operation]
+        ensures operations { λ r. ⌜ now r ≡ postfix (read-tree (now (self .entry))) ⌝ }
+        ensures short { λ r. ⌜ length (now r) ≤ 400 ⌝ }
+    {
+        self.read.as_slice()
+    }
+
+    /// The operations of the write text's tree, in postfix order.
+    pub fn write_operations(&self) -> &[Operation]
+        ensures operations { λ r. ⌜ now r ≡ postfix (write-tree (now (self .entry))) ⌝ }
+        ensures short { λ r. ⌜ length (now r) ≤ 400 ⌝ }
+    {
+        self.write.as_slice()
+    }
+
+    /// The letters of the read text and then those of the write text, from left to right.
+    pub fn letters(&self) -> &[Letter]
+        ensures letters { λ r. ⌜ map letter-of (now r) ≡ leaves (read-tree (now (self .entry))) ++ leaves (write-tree (now (self .entry))) ⌝ }
+        ensures few { λ r. ⌜ length (now r) ≤ 62 ⌝ }
+    {
+        self.letters.as_slice()
     }
 }

@@ -8,10 +8,10 @@ pub returns-in-Ok : need.returns-in-Ok
 unfolding summary-of
 returns-in-Ok c =
     subst (λ w. made (c .letters-line .result) (λ s. string-bytes s ≡ w))
-    ((λ i. letters-text (c .read-letters .ensures i) (c .write-letters .ensures i)) ∙ ap summary-of (c .in-Ok .ensures tt .reading)) (c .letters-line .ensures)
+    ((λ i. letters-text (c .read-letters .ensures i) (c .write-letters .ensures i)) ∙ ap summary-of (c .in-Ok .ensures tt)) (c .letters-line .ensures)
 
 pub returns-in-Err : need.returns-in-Err
 unfolding summary-of
 returns-in-Err c =
     subst (λ w. made (c .refusal-line .result) (λ s. string-bytes s ≡ w))
-    ((λ i. refusal-text (c .number .ensures i) (c .number-in-Err .ensures i) (c .in-Err .refusal .place)) ∙ ap summary-of (c .in-Err .ensures tt .reading)) (c .refusal-line .ensures)
+    ((λ i. refusal-text (c .number .ensures i) (c .number-in-Err .ensures i) (c .in-Err .refusal .place)) ∙ ap summary-of (c .in-Err .ensures tt)) (c .refusal-line .ensures)
