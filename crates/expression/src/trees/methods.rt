@@ -3,6 +3,7 @@ ghost use mathlib.Core.Path.{_≡_};
 ghost use mathlib.Core.List.{map, _++_};
 ghost use Prim.Native.Nat.{_≤_};
 ghost use lib.ListN.{length};
+ghost use Rattle.expression.specs.Expressions.{empty};
 ghost use Rattle.expression.specs.Held.{read-tree, write-tree, reading-of};
 ghost use Rattle.expression.specs.Reading.{read-contract};
 ghost use Rattle.expression.specs.Tables.{postfix, leaves, letter-of};
@@ -11,6 +12,7 @@ use crate::operation::Operation;
 use crate::parser::read_text;
 use crate::tables::Letters;
 use crate::tables::MAX_TEXT;
+use crate::tables::Postfix;
 use crate::texts::Text;
 use crate::texts::TextRefusal;
 use crate::trees::Trees;
@@ -29,6 +31,21 @@ fn in_text(refusal: Refusal, text: Text) -> TextRefusal
 }
 
 impl Trees {
+    /// The trees of two texts `()`.
+    pub fn empty() -> Trees
+        ensures reads { λ r. ⌜ read-tree r ≡ empty ⌝ }
+        ensures writes { λ r. ⌜ write-tree r ≡ empty ⌝ }
+    {
+        let mut one = Postfix::new();
+        one.push(Operation::Empty);
+        Trees {
+            read: one,
+            write: one,
+            letters: Letters::new(),
+            read_letters: 0,
+        }
+    }
+
     /// Reads a contract's two texts.
     pub fn parse(read: &[u8], write: &[u8]) -> Result<Trees, TextRefusal>
         ensures { λ r. ⌜ reading-of r ≡ read-contract (now (read .entry)) (now (write .entry)) ⌝ }

@@ -1,0 +1,4 @@
+pub mod Quotients
+pub mod Depths
+pub mod Walks
+pub mod Spelled

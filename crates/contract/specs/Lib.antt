@@ -1,0 +1,4 @@
+pub mod Terms
+pub mod Depths
+pub mod Paths
+pub mod PathTexts

@@ -1,0 +1,28 @@
+-- What a residue of a contract permits: a set of readable paths, and a set of writable paths.
+use mathlib.Core.Path.{_≡_}
+use mathlib.Core.Bool.{Bool, true, _&&_}
+use mathlib.Core.List.{List, [], _∷_, _++_}
+use Rattle.lexer.specs.Names.{Name, Path, all-lawful}
+
+pub record Terms : Type 0 where
+  pub reads : Path → Bool
+  pub writes : Path → Bool
+
+-- what is left after a name, the left quotient: a path is in a set exactly when the name followed by it was
+abbrev pub after : Name → Terms → Terms
+after p t = record { reads = λ q. t .reads (p ∷ q); writes = λ q. t .writes (p ∷ q) }
+
+-- what is left after a path
+abbrev pub along : Path → Terms → Terms
+along [] t = t
+along (p ∷ q) t = along q (after p t)
+
+-- what both permit
+abbrev pub meet : Terms → Terms → Terms
+meet s t = record { reads = λ q. s .reads q && t .reads q; writes = λ q. s .writes q && t .writes q }
+
+-- every beginning of a readable path is readable, and only lists of lawful names are in the sets
+pub record Orderly (t : Terms) : Type 0 where
+  pub beginnings : (p q : Path) → t .reads (p ++ q) ≡ true → t .reads p ≡ true
+  pub read-names : (p : Path) → t .reads p ≡ true → all-lawful p ≡ true
+  pub write-names : (p : Path) → t .writes p ≡ true → all-lawful p ≡ true

@@ -1,0 +1,6 @@
+//! Contracts: which paths may be read, and which may be written.
+pub mod both;
+pub mod contract;
+pub mod depth;
+pub mod path_text;
+pub mod permits;
