@@ -2,3 +2,4 @@ pub mod Quotients
 pub mod Depths
 pub mod Walks
 pub mod Spelled
+pub mod Opened

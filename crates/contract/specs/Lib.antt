@@ -2,3 +2,4 @@ pub mod Terms
 pub mod Depths
 pub mod Paths
 pub mod PathTexts
+pub mod ExpressionTerms

@@ -2,5 +2,6 @@
 pub mod both;
 pub mod contract;
 pub mod depth;
+pub mod expressions;
 pub mod path_text;
 pub mod permits;

@@ -1,0 +1,14 @@
+pub mod Masks
+pub mod Sums
+pub mod Gathered
+pub mod Piles
+pub mod Runs
+pub mod Positions
+pub mod Steps
+pub mod Quotients
+pub mod Labels
+pub mod Lefts
+pub mod Stepped
+pub mod Made
+pub mod Residues
+pub mod Laws

@@ -1,0 +1,5 @@
+pub mod Bits
+pub mod Positions
+pub mod Passes
+pub mod Tells
+pub mod Residues
