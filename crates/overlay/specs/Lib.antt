@@ -1,0 +1,4 @@
+pub mod Entries
+pub mod Lent
+pub mod Over
+pub mod Overlays

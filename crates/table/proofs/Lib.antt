@@ -1,0 +1,2 @@
+pub mod Removal
+pub mod Steps
