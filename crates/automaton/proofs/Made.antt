@@ -3,6 +3,7 @@ use mathlib.Core.Path.{_≡_, refl, ap, _∙_}
 use mathlib.Core.Bool.{false, _&&_, _||_}
 use mathlib.Core.List.{List}
 use Prim.Native.Nat.{ℕ, zero, suc, _+_, _<_}
+use native.Mathlib.Omega.{arith}
 use lib.ListN.{getD, replicate}
 use Rattle.std.proofs.shelf.Tests.{lt-ltb}
 use Rattle.expression.specs.Expressions.{Expr}
@@ -22,7 +23,7 @@ zeros zero x = refl
 zeros (suc n) zero = refl
 zeros (suc n) (suc x) = zeros n x
 
-pub no-links : (x y : ℕ) → link-of (replicate 62 0) x y ≡ false
+no-links : (x y : ℕ) → link-of (replicate 62 0) x y ≡ false
 no-links x y = ap (λ m. bit m y) (zeros 62 x) ∙ bit-zero y
 
 module _ (e : Expr) (os : List Operation) (from : ℕ) (follow : List ℕ) (are : os ≡ postfix e) where
@@ -39,3 +40,13 @@ module _ (e : Expr) (os : List Operation) (from : ℕ) (follow : List ℕ) (are 
       → (x y : ℕ) → x < 62 → link-of table x y ≡ (link-of follow x y || may-follow e from x y)
   found-links table h x y low =
       ap (λ l. l x y) (h ∙ ap (λ m. m .link) found) ∙ ap (λ b. link-of follow x y || (b && may-follow e from x y)) (lt-ltb x 62 low)
+
+-- a table to which two trees added their links, one after the other
+pub both-links : (a b : Expr) (once twice : List ℕ) (n : ℕ) → n ≡ size a
+    → ((x y : ℕ) → x < 62 → link-of once x y ≡ (link-of (replicate 62 0) x y || may-follow a 0 x y))
+    → ((x y : ℕ) → x < 62 → link-of twice x y ≡ (link-of once x y || may-follow b n x y))
+    → (x y : ℕ) → x < 62 → link-of twice x y ≡ (may-follow a 0 x y || may-follow b (size a) x y)
+both-links a b once twice n e h k x y low =
+    let none = no-links x y in
+    let first = h x y low in
+    k x y low ∙ ap (λ m. link-of once x y || may-follow b m x y) e ∙ grind arith

@@ -110,7 +110,7 @@ module _ (s : State) where
         link = link-of (s .follow);
       }
 
-  -- an operation on two operands, read at a default d, that makes a pass of them
+  -- the last two operands, read at any default d, are replaced by one
   module _ (d f : Facts) (low : 2 ≤ s .height) (high : s .height ≤ length (s .pile)) where
     pub makes-alternative : summary-of f ≡ of-alternative (summary-of (getD (s .pile) (s .height - 2) d)) (summary-of (getD (s .pile) (s .height - 1) d))
         → pass-of (record { pile = set (s .pile) (s .height - 2) f; height = s .height - 1; count = s .count; follow = s .follow })

@@ -1,15 +1,14 @@
 -- The contract by the number of names keeps the laws, and its steps are left quotients.
-use mathlib.Core.Path.{_≡_, refl, sym, ap, _∙_}
-use mathlib.Core.List.{List, [], _∷_, _++_}
-use mathlib.Core.Bool.{Bool, true, false, _&&_}
-use mathlib.Core.Logic.{_⊎_, inl, inr}
-use Prim.Native.Nat.{ℕ, _+_, _≤_, _<_}
+use mathlib.Core.Path.{_≡_, sym}
+use mathlib.Core.List.{_∷_, _++_}
+use mathlib.Core.Bool.{false, _&&_}
+use Prim.Native.Nat.{ℕ, _+_, _≤_}
 use native.Mathlib.Omega.{arith}
 use lib.Dec.{leb}
 use lib.ListN.{length, length-append}
-use Rattle.std.proofs.shelf.Tests.{and-parts, and-from, le-leb, lt-leb, leb-true, and-right, and-left, false≢true}
-use Rattle.lexer.specs.Names.{Name, Path, lawful, all-lawful}
-use Rattle.contract.specs.Terms.{Terms, Orderly, after}
+use Rattle.std.proofs.shelf.Tests.{and-parts, and-from, le-leb, lt-leb, leb-true, and-right, false≢true}
+use Rattle.lexer.specs.Names.{Name, lawful, all-lawful}
+use Rattle.contract.specs.Terms.{Orderly, after}
 use Rattle.contract.specs.Depths.{depth-terms}
 use Rattle.contract.specs.declared.depth.Depth.{Depth}
 use Rattle.contract.specs.declared.depth.Taken.{Taken}
@@ -22,24 +21,16 @@ depth-orderly d (Names n) = record {
       let parts = and-parts (all-lawful (p ++ q)) (leb (n + length (p ++ q)) (d .read)) h in
       let within : n + length (p ++ q) ≤ d .read = leb-true (n + length (p ++ q)) (d .read) (parts .1) in
       and-from (all-lawful p) (leb (n + length p) (d .read)) (lawful-front p q (parts .0)) (le-leb (n + length p) (d .read) (omega (arith, length-append p q)));
-  read-names = λ p h. and-parts (all-lawful p) (leb (n + length p) (d .read)) h .0;
-  write-names = λ p h. and-parts (all-lawful p) (leb 1 (n + length p) && leb (n + length p) (d .write)) h .0;
+  readable-lawful = λ p h. and-parts (all-lawful p) (leb (n + length p) (d .read)) h .0;
+  writable-lawful = λ p h. and-parts (all-lawful p) (leb 1 (n + length p) && leb (n + length p) (d .write)) h .0;
 }
 depth-orderly d Beyond = record {
   beginnings = λ p q h. h;
-  read-names = λ p h. absurd (false≢true h);
-  write-names = λ p h. absurd (false≢true h);
+  readable-lawful = λ p h. absurd (false≢true h);
+  writable-lawful = λ p h. absurd (false≢true h);
 }
 
 module _ (d : Depth) (n : ℕ) (p : Name) where
-  -- a lawful name counts
-  pub depth-next : lawful p ≡ true → depth-terms d (Names (n + 1)) ≡ after p (depth-terms d (Names n))
-  depth-next h =
-      let deeper : (q : Path) → (n + 1) + length q ≡ n + length (p ∷ q) = λ q. omega arith in
-      same-terms (depth-terms d (Names (n + 1))) (after p (depth-terms d (Names n)))
-      (λ q. rw h (ap (λ k. all-lawful q && leb k (d .read)) (deeper q)))
-      (λ q. rw h (ap (λ k. all-lawful q && (leb 1 k && leb k (d .write))) (deeper q)))
-
   -- what is no lawful name ends it
   pub depth-lawless : lawful p ≡ false → depth-terms d Beyond ≡ after p (depth-terms d (Names n))
   depth-lawless h = same-terms (depth-terms d Beyond) (after p (depth-terms d (Names n))) (λ q. rw h) (λ q. rw h)

@@ -1,29 +1,27 @@
 -- What a contract by path expressions permits from its start, and the laws that it keeps.
-use mathlib.Core.Path.{_≡_, refl, sym, ap, _∙_}
+use mathlib.Core.Path.{_≡_, refl, ap, _∙_}
 use mathlib.Core.Bool.{Bool, true, false, cond}
-use mathlib.Core.List.{List, [], _∷_}
+use mathlib.Core.List.{[], _∷_}
 use Prim.Native.Nat.{ℕ}
-use Rattle.automaton.specs.Residues.{trees-of, reads-left, writes-left}
+use Rattle.automaton.specs.Residues.{trees-of, reads-left}
 use Rattle.automaton.specs.declared.automaton.Automaton.{Automaton}
 use Rattle.automaton.proofs.Laws.{beginnings-are-left, residues-are-lawful, starts-leave-all}
-use Rattle.expression.specs.Expressions.{Expr, empty}
-use Rattle.expression.specs.Held.{read-tree, write-tree, reading-of}
-use Rattle.expression.specs.Languages.{derivative, remaining, begins, accepts}
-use Rattle.expression.specs.Reading.{Reading, trees, read-contract}
-use Rattle.expression.specs.declared.trees.Trees.{Trees}
+use Rattle.expression.specs.Expressions.{empty}
+use Rattle.expression.specs.Held.{read-tree, write-tree}
+use Rattle.expression.specs.Languages.{derivative, remaining, begins}
 use Rattle.lexer.specs.Names.{Path}
 use Rattle.std.specs.Options.{isSome}
-use Rattle.std.specs.declared.option.Option.the-variants.{Some, None}
+use Rattle.std.specs.declared.option.Option.the-variants.{None}
 use Rattle.contract.specs.ExpressionTerms.{expression-terms, opening, start-terms, by-trees, is-empty, only-empty}
-use Rattle.contract.specs.Terms.{Terms, Orderly}
+use Rattle.contract.specs.Terms.{Orderly}
 use Rattle.contract.specs.declared.expressions.Expression.{Expression}
 use Rattle.contract.proofs.Quotients.{same-terms}
 
 pub orderly : (c : Expression) (r : ℕ) → Orderly (expression-terms c r)
 orderly c r = record {
   beginnings = beginnings-are-left (c .automaton) r;
-  read-names = λ p. residues-are-lawful (c .automaton) r p .reads;
-  write-names = λ p. residues-are-lawful (c .automaton) r p .writes;
+  readable-lawful = λ p. residues-are-lawful (c .automaton) r p .reads;
+  writable-lawful = λ p. residues-are-lawful (c .automaton) r p .writes;
 }
 
 -- texts were read: what their trees permit

@@ -1,6 +1,6 @@
 -- The contract that bounds the number of names.
-use mathlib.Core.Bool.{Bool, false, _&&_}
-use Prim.Native.Nat.{ℕ, _+_}
+use mathlib.Core.Bool.{false, _&&_}
+use Prim.Native.Nat.{_+_}
 use lib.Dec.{leb}
 use lib.ListN.{length}
 use Rattle.lexer.specs.Names.{all-lawful}

@@ -1,6 +1,6 @@
 -- What a contract by two path expressions permits.
 use mathlib.Core.Bool.{Bool, true, false, cond}
-use mathlib.Core.List.{List, [], _∷_}
+use mathlib.Core.List.{[], _∷_}
 use Prim.Native.Nat.{ℕ}
 use Rattle.automaton.specs.Residues.{reads-left, writes-left}
 use Rattle.expression.specs.Expressions.{Expr}

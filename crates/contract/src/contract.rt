@@ -6,7 +6,7 @@ ghost use mathlib.Core.Path.{_≡_};
 
 /// A contract means, for each residue, a set of readable paths and a set of writable paths. No call changes it.
 pub trait Contract {
-    /// What the names passed so far leave to be known.
+    /// What the contract keeps of the names passed so far.
     type Residue: Copy;
 
     /// What a residue permits.
@@ -15,8 +15,10 @@ pub trait Contract {
     /// The residue before any name.
     ghost starts: { Self → Self·Residue };
 
+    // Every beginning of a readable path is readable, and only lists of lawful names are in the sets.
     law orderly: { (c : Self) (r : Self·Residue) → Orderly (terms c r) };
 
+    // At the start the empty path is readable.
     law opened: { (c : Self) → terms c (starts c) .reads [] ≡ true };
 
     /// The starting residue.

@@ -3,5 +3,6 @@ pub mod both;
 pub mod contract;
 pub mod depth;
 pub mod expressions;
+pub mod laws;
 pub mod path_text;
 pub mod permits;

@@ -15,6 +15,7 @@ pub struct Permission {
     pub write: bool,
 }
 
+/// What is permitted of the empty path at a residue.
 fn permission_at<C: Contract>(contract: &C, at: C::Residue) -> Permission
     ensures { λ r. ⌜ r ≡ record { read = terms (now (contract .entry)) at .reads []; write = terms (now (contract .entry)) at .writes [] } ⌝ }
 {

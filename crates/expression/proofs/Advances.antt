@@ -1,22 +1,20 @@
 -- Which tokens a state of the reading lets pass, and which states let the same tokens pass.
 use mathlib.Core.Path.{_≡_, refl, sym, ap, _∙_}
-use mathlib.Core.Bool.{Bool, true, false, cond, _&&_, not}
+use mathlib.Core.Bool.{Bool, true, false, cond}
 use mathlib.Core.List.{List, [], _∷_}
-use Prim.Native.Nat.{ℕ, _+_, _<_, _≤_}
-use lib.Dec.{eqb}
+use Prim.Native.Nat.{ℕ, _+_}
 use lib.ListN.{length}
 use Rattle.lexer.specs.Readers.{text-of, place-of, language-of, Moved}
-use Rattle.lexer.specs.Tokens.{Lexeme, name, number, sign, equals, end, bad, lex, Tokens, token, ended, broken, then, tokens, lexed-of}
+use Rattle.lexer.specs.Tokens.{Lexeme, name, number, sign, equals, end, bad, lex, Tokens, token, then, tokens, lexed-of}
 use Rattle.lexer.specs.declared.token.Placed.{Placed}
 use Rattle.lexer.specs.declared.reader.Reader.{Reader}
 use Rattle.lexer.specs.declared.refusal.Reason.{Reason}
-use Rattle.lexer.specs.declared.refusal.Reason.the-variants.{Grammar}
 use Rattle.lexer.proofs.Rows.{tokens-step}
 use Rattle.std.specs.declared.option.Option.{Option}
 use Rattle.std.specs.declared.option.Option.the-variants.{Some, None}
-use Rattle.expression.specs.Expressions.{Letter, any, named, Expr, letter, alternative, sequence, star}
+use Rattle.expression.specs.Expressions.{Expr, alternative, sequence}
 use Rattle.expression.specs.Parsing.{tokens-from, next-of, next-place, past-next, is-the-sign, reason-at}
-use Rattle.expression.specs.Reading.{Level, blank, Here, opened, wanting, holding, starred, State, state, advance, finish, passes, weight, step, conclude, read, Outcome, refused}
+use Rattle.expression.specs.Reading.{Level, blank, Here, opened, wanting, holding, starred, State, state, advance, finish, passes, weight, step, read, refused}
 
 -- a choice between equals
 cond-same : {A : Type 0} (b : Bool) (x : A) → cond b x x ≡ x

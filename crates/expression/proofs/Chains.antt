@@ -1,22 +1,21 @@
 -- Parts of the grammar that read another part again and again, with a sign between: what a turn of their loop keeps, and
 -- what each way out gives.
-use mathlib.Core.Path.{_≡_, refl, sym, ap, _∙_, subst}
-use mathlib.Core.Bool.{Bool, true, false, cond, _&&_, not}
+use mathlib.Core.Path.{_≡_, refl, sym, ap, _∙_}
+use mathlib.Core.Bool.{true, false}
 use mathlib.Core.List.{List, [], _∷_, _++_, append-nil, append-assoc}
-use Prim.Native.Nat.{ℕ, _+_, _<_, _≤_}
+use Prim.Native.Nat.{ℕ, _+_, _≤_}
 use native.Mathlib.Omega.{arith}
 use lib.ListN.{length}
 use Rattle.lexer.specs.Readers.{text-of, place-of, language-of}
 use Rattle.lexer.specs.Tokens.{Lexeme, sign}
 use Rattle.lexer.specs.declared.reader.Reader.{Reader}
 use Rattle.lexer.specs.declared.refusal.Refusal.{Refusal}
-use Rattle.std.specs.declared.option.Option.{Option}
 use Rattle.std.specs.declared.option.Option.the-variants.{Some, None}
 use Rattle.std.specs.declared.result.Result.the-variants.{Ok, Err}
 use Rattle.std.proofs.shelf.Tests.{and-from, not-from-false, not-true}
 use Rattle.expression.specs.Expressions.{Letter, Expr, alternative, sequence, star}
 use Rattle.expression.specs.Parsing.{tokens-from, next-of, is-the-sign, Accepted, Part, base-part, item-part, sequence-part, alternative-part, Made, Parsed, wanting-at}
-use Rattle.expression.specs.Reading.{Level, wanting, holding, starred, state, advance, passes, weight, read, refused}
+use Rattle.expression.specs.Reading.{Level, wanting, holding, starred, state, advance, passes, weight, read}
 use Rattle.expression.specs.Tables.{operations-of, letters-of, postfix, leaves}
 use Rattle.expression.specs.declared.operation.Operation.{Operation}
 use Rattle.expression.specs.declared.operation.Operation.the-variants.{Alternative, Sequence, Star}
@@ -109,14 +108,6 @@ module _ {P Q : Type 0} {part : Part P} {sub : Part Q} {between : ℕ} {operatio
             ∙ c .regroups s2 (m2 .used) outer p (go .grow d) (made .tree) (made .ended);
       }
 
-  -- the part fails where the first one does
-  pub fails : {depth : ℕ} {r0 r : Reader} {o0 o : Postfix} {l0 l : Letters} {x : Refusal} → Parsed sub depth r0 r o0 o l0 l (Err x) → Parsed part depth r0 r o0 o l0 l (Err x)
-  fails {r0} {l0 = l0} a = record {
-    text = a .text;
-    language = a .language;
-    said = λ p outer many. sym (ap (λ v. wanting-at v outer l0 r0) (c .first-level p)) ∙ a .said (c .first p) outer many;
-  }
-
   module _ {depth : ℕ} {r0 r s : Reader} {o0 o u : Postfix} {l0 l m : Letters} (begun : Parsed sub depth r0 r o0 o l0 l (Ok tt)) (go : Going c depth r s o u l m) where
     made0 : Made sub depth r0 r o0 o l0 l
     made0 = begun .said
@@ -198,9 +189,6 @@ sequences = record {
 
 -- an item is a base, and maybe a `*`
 module _ {depth : ℕ} {r s : Reader} {o u : Postfix} {l m : Letters} where
-  pub item-fails : {x : Refusal} → Parsed base-part depth r s o u l m (Err x) → Parsed item-part depth r s o u l m (Err x)
-  item-fails a = record { text = a .text; language = a .language; said = a .said }
-
   pub item-starred : {s1 : Reader} {u2 : Postfix} → Parsed base-part depth r s o u l m (Ok tt) → Accepted 42 s s1 true → operations-of u2 ≡ operations-of u ++ (Star ∷ []) → u2 .used ≡ u .used + 1 → Parsed item-part depth r s1 o u2 l m (Ok tt)
   unfolding advance passes postfix leaves
   item-starred a b pushed used =

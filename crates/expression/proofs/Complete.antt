@@ -6,7 +6,7 @@ use Rattle.std.specs.declared.option.Option.the-variants.{Some, None}
 use Rattle.lexer.specs.Tokens.{Lexeme}
 use Rattle.expression.specs.Expressions.{Expr, sequence}
 use Rattle.expression.specs.Reading.{Level, blank, Here, opened, wanting, holding, starred, State, state, start, joined, whole}
-use Rattle.expression.specs.Derivations.{Part, alternatives, sequences, items, bases, Derives, a-name, any-name, nothing, bracket, once, repeated, one-item, more-items, one-sequence, more-sequences}
+use Rattle.expression.specs.Derivations.{Category, alternatives, sequences, items, bases, Derives, a-name, any-name, nothing, bracket, once, repeated, one-item, more-items, one-sequence, more-sequences}
 use Rattle.expression.proofs.Moves.{Wants, at-opening, at-gap, Holds, held, starry, name-comes, any-comes, bracket-opens, nothing-closes, bracket-closes, star-comes, dot-comes, bar-comes, Ends, ends, Goes, goes, _then_, one}
 
 -- inside a bracket
@@ -15,7 +15,7 @@ level a i = record { alternatives = a; items = i }
 
 -- where a run over the tokens of a part comes from where an operand can come: a base and an item end at the same level, a
 -- sequence begins where no item was read, and alternatives where nothing was
-abbrev Reaches : Part → List Lexeme → Expr → Type 0
+abbrev Reaches : Category → List Lexeme → Expr → Type 0
 Reaches bases ts e = (o : List Level) (l : Level) (h : Here) → Wants h → Goes (state o l h) ts (state o l (holding e))
 Reaches items ts e = (o : List Level) (l : Level) (h : Here) → Wants h → (k : Here) × Holds k e × Goes (state o l h) ts (state o l k)
 Reaches sequences ts e =
@@ -26,7 +26,7 @@ Reaches alternatives ts e =
     → (l : Level) × (x : Expr) × (k : Here) × Holds k x × Goes (state o blank h) ts (state o l k) × (whole l x ≡ e)
 
 -- each derivation is such a run
-reaches : {p : Part} {ts : List Lexeme} {e : Expr} → Derives p ts e → Reaches p ts e
+reaches : {p : Category} {ts : List Lexeme} {e : Expr} → Derives p ts e → Reaches p ts e
 reaches (a-name n) = λ o l h w. one (name-comes w)
 reaches any-name = λ o l h w. one (any-comes w)
 reaches nothing = λ o l h w. goes (bracket-opens w) (one nothing-closes)

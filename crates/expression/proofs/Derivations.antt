@@ -9,7 +9,7 @@ use Rattle.lexer.specs.Tokens.{Lexeme, Tokens, ended}
 use Rattle.lexer.specs.declared.refusal.Reason.{Reason}
 use Rattle.expression.specs.Expressions.{Expr}
 use Rattle.expression.specs.Reading.{State, start, accepted, refused}
-use Rattle.expression.specs.Derivations.{One-tree, words, unbroken, Well-formed, Reading-is-derivation, Splits, here, past, Wrong, Refusals-are-exact}
+use Rattle.expression.specs.Derivations.{One-tree, lexemes-in, unbroken, Well-formed, Reading-is-derivation, Splits, here, past, Wrong, Refusals-are-exact}
 use Rattle.expression.proofs.Moves.{end-finishes, _then_, one}
 use Rattle.expression.proofs.Complete.{complete}
 use Rattle.expression.proofs.Sound.{sound}
@@ -24,9 +24,9 @@ one-tree ts d e p q =
     let y = end-finishes (derived-ends (complete p .run) q) in
     cc
 
--- the words before the end of a text are all of them, and none is bad
-whole : {at : ℕ} {ts : Tokens} {ws : List Lexeme} → Splits ts ws (ended at) → (words ts ≡ ws) × (unbroken ts ≡ true)
-unfolding words unbroken
+-- the lexemes before the end of a text are all of them, and none is bad
+whole : {at : ℕ} {ts : Tokens} {ws : List Lexeme} → Splits ts ws (ended at) → (lexemes-in ts ≡ ws) × (unbroken ts ≡ true)
+unfolding lexemes-in unbroken
 whole (here _) = (refl, refl)
 whole (past t at ts rest ws split) = let (is, tokens) = whole split in (rw is, tokens)
 

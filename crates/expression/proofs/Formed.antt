@@ -1,15 +1,14 @@
 -- Operations are well formed exactly if they are those of the tree that they make.
 use mathlib.Core.Path.{_≡_, refl, sym, ap, _∙_}
-use mathlib.Core.Bool.{Bool, true, false, _&&_}
+use mathlib.Core.Bool.{true, false, _&&_}
 use mathlib.Core.List.{List, [], _∷_, _++_, append-nil, append-assoc}
-use Prim.Native.Nat.{ℕ, zero, suc, _+_, _-_, _<_, _≤_}
+use Prim.Native.Nat.{ℕ, suc, _+_, _-_}
 use native.Mathlib.Nat.{add-zero, zero-add}
 use native.Mathlib.Numerals.{add-one}
 use native.Mathlib.Omega.{arith}
-use lib.Dec.{leb, eqb}
-use lib.ListN.{length, take, drop, length-append}
-use Rattle.std.proofs.shelf.Lists.{length-take-le, length-drop, take-append-drop}
-use Rattle.std.proofs.shelf.Tests.{false≢true, and-parts, eqb-true, leb-true, le-leb, lt-leb}
+use lib.Dec.{leb}
+use lib.ListN.{length, length-append}
+use Rattle.std.proofs.shelf.Tests.{false≢true, and-parts, eqb-true, le-leb}
 use Rattle.expression.specs.Expressions.{Letter, Expr, empty, letter, alternative, sequence, star}
 use Rattle.expression.specs.Tables.{postfix, leaves, build, formed}
 use Rattle.expression.specs.declared.operation.Operation.{Operation}

@@ -1,15 +1,15 @@
 -- What a base of the grammar gives: a letter, or a bracket.
 use mathlib.Core.Path.{_≡_, refl, sym, ap, _∙_, subst}
-use mathlib.Core.Bool.{Bool, true, false, cond, _&&_}
+use mathlib.Core.Bool.{Bool, true, false, cond}
 use mathlib.Core.List.{List, [], _∷_, _++_, append-nil}
 use Prim.Native.Nat.{ℕ, suc, _+_, _<_, _≤_}
 use native.Mathlib.Nat.{add-zero}
 use native.Mathlib.Numerals.{add-one}
 use native.Mathlib.Omega.{arith}
-use lib.Dec.{leb, ltb, eqb}
+use lib.Dec.{leb, eqb}
 use lib.ListN.{length}
 use Rattle.lexer.specs.Readers.{text-of, place-of, language-of, Moved}
-use Rattle.lexer.specs.Tokens.{Lexeme, name, number, sign, equals, end, bad, lex, Tokens, token, then, tokens, lexed-of, lexeme-of}
+use Rattle.lexer.specs.Tokens.{Lexeme, name, number, sign, equals, end, bad, lex, Tokens, token, then, lexed-of, lexeme-of}
 use Rattle.lexer.specs.declared.token.Placed.{Placed}
 use Rattle.lexer.specs.declared.token.Token.{Token}
 use Rattle.lexer.specs.declared.token.Token.the-variants.{Name, Number, Sign, Equals, End, Bad}
@@ -17,12 +17,11 @@ use Rattle.lexer.specs.declared.reader.Reader.{Reader}
 use Rattle.lexer.specs.declared.refusal.Reason.the-variants.{Deep, Many}
 use Rattle.lexer.specs.declared.refusal.Refusal.{Refusal}
 use Rattle.lexer.proofs.Rows.{Takes, found}
-use Rattle.std.specs.declared.option.Option.{Option}
 use Rattle.std.specs.declared.option.Option.the-variants.{Some, None}
 use Rattle.std.specs.declared.result.Result.the-variants.{Ok, Err}
-use Rattle.std.proofs.shelf.Tests.{eqb-true, ltb-true, ltb-false, le-leb, lt-leb, ne-eqb, and-parts, not-true}
-use Rattle.expression.specs.Expressions.{Letter, any, named, Expr, empty, letter}
-use Rattle.expression.specs.Parsing.{tokens-from, next-of, next-place, past-next, is-the-sign, letter-at, reason-at, Accepted, Part, base-part, alternative-part, Made, Parsed}
+use Rattle.std.proofs.shelf.Tests.{eqb-true, le-leb, lt-leb, ne-eqb, and-parts, not-true}
+use Rattle.expression.specs.Expressions.{Letter, any, named, empty, letter}
+use Rattle.expression.specs.Parsing.{tokens-from, next-of, next-place, past-next, is-the-sign, letter-at, reason-at, Accepted, base-part, alternative-part, Made, Parsed}
 use Rattle.expression.specs.Reading.{Level, blank, opened, wanting, holding, starred, State, state, advance, opens, passes, weight, read, refused}
 use Rattle.expression.specs.Tables.{operations-of, letters-of, postfix, leaves}
 use Rattle.expression.specs.declared.operation.Operation.the-variants as operation

@@ -14,7 +14,7 @@ use Rattle.lexer.specs.declared.refusal.Reason.{Reason}
 use Rattle.lexer.specs.declared.refusal.Reason.the-variants.{Token, Grammar}
 use Rattle.expression.specs.Expressions.{Expr}
 use Rattle.expression.specs.Reading.{State, advance, finish, weight, passes, Outcome, accepted, refused, step, conclude, read}
-use Rattle.expression.specs.Derivations.{letters-in, deeper, shallow, words, unbroken, Splits, here, past}
+use Rattle.expression.specs.Derivations.{letters-in, deeper, shallow, lexemes-in, unbroken, Splits, here, past}
 use Rattle.expression.proofs.Moves.{Move, advance-moves, move-advances, Ends, finish-ends, end-finishes, Goes, stays, goes}
 use Rattle.expression.proofs.Limits.{move-depth, Limit, Passing, passing, passes-none}
 
@@ -26,14 +26,14 @@ pub data Stops : ℕ → State → Tokens → Outcome → Type 0 where
   blocked : {n at : ℕ} {s : State} {t : Lexeme} {ts : Tokens} → ((next : State) → Move t s next → ⊥) → Stops n s (token t at ts) (refused Grammar at)
   limited : {n at : ℕ} {s next : State} {t : Lexeme} {ts : Tokens} {reason : Reason} → Move t s next → Limit t (length (s .outer)) n reason → Stops n s (token t at ts) (refused reason at)
 
--- a run over words within the limits, from a state and so many letters on to another and their total
+-- a run over lexemes within the limits, from a state and so many letters on to another and their total
 pub record Trail (letters : ℕ) (s : State) (ws : List Lexeme) (to : State) (total : ℕ) : Type 0 where
   pub run : Goes s ws to
   pub brackets : shallow (length (s .outer)) ws ≡ true
   pub count : letters + letters-in ws ≡ total
   pub few : total ≤ 62
 
--- the words of a text that are read, and where the reading stops
+-- the lexemes of a text that are read, and where the reading stops
 pub record Walk (letters : ℕ) (s : State) (ts : Tokens) (o : Outcome) : Type 0 where
   pub ws : List Lexeme
   pub rest : Tokens
@@ -101,9 +101,9 @@ walk (token t at ts) letters s d l =
 walk (ended at) letters s d l = halts l (at-end (finish s (s .outer) (s .here)) refl)
 walk (broken at) letters s d l = halts l breaks
 
--- a text is read as a tree that a run over its words accepts within the limits
-pub accepts : (ts : Tokens) (letters total : ℕ) (s to : State) (e : Expr) → Goes s (words ts) to → Ends to e → unbroken ts ≡ true → shallow (length (s .outer)) (words ts) ≡ true → letters + letters-in (words ts) ≡ total → total ≤ 62 → read letters s ts ≡ accepted e total
-unfolding read words unbroken shallow letters-in
+-- a text is read as a tree that a run over its lexemes accepts within the limits
+pub accepts : (ts : Tokens) (letters total : ℕ) (s to : State) (e : Expr) → Goes s (lexemes-in ts) to → Ends to e → unbroken ts ≡ true → shallow (length (s .outer)) (lexemes-in ts) ≡ true → letters + letters-in (lexemes-in ts) ≡ total → total ≤ 62 → read letters s ts ≡ accepted e total
+unfolding read lexemes-in unbroken shallow letters-in
 accepts (token t at ts) letters total s to e (goes {next = next} m run) x u b c f =
     let (now, later) = and-parts (ltb (deeper (length (s .outer)) t) 17) _ b in
     rw (move-advances m, passes-none t (length (s .outer)) letters (omega (arith, ltb-true _ 17 now)) (omega arith))

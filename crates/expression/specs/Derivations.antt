@@ -11,14 +11,15 @@ use Rattle.lexer.specs.declared.refusal.Reason.the-variants.{Token, Grammar, De
 use Rattle.expression.specs.Expressions.{any, named, Expr, empty, letter, alternative, sequence, star}
 use Rattle.expression.specs.Reading.{weight, opens, start, accepted, refused, read}
 
-pub data Part : Type 0 where
-  alternatives : Part
-  sequences : Part
-  items : Part
-  bases : Part
+-- the parts of the grammar
+pub data Category : Type 0 where
+  alternatives : Category
+  sequences : Category
+  items : Category
+  bases : Category
 
--- the tokens are a part of this kind, with this tree: ? is 63, ( is 40, ) is 41, * is 42, . is 46, | is 124
-pub data Derives : Part → List Lexeme → Expr → Type 0 where
+-- the tokens are a part of this category, with this tree: ? is 63, ( is 40, ) is 41, * is 42, . is 46, | is 124
+pub data Derives : Category → List Lexeme → Expr → Type 0 where
   a-name : (n : List ℕ) → Derives bases (name n ∷ []) (letter (named n))
   any-name : Derives bases (sign 63 ∷ []) (letter any)
   nothing : Derives bases (sign 40 ∷ (sign 41 ∷ [])) empty
@@ -62,10 +63,10 @@ shallow depth [] = true
 shallow depth (t ∷ ts) = ltb (deeper depth t) 17 && shallow (deeper depth t) ts
 
 -- the tokens of a text up to its end or to a bad one
-unfoldable pub words : Tokens → List Lexeme
-words (token t at ts) = t ∷ words ts
-words (ended at) = []
-words (broken at) = []
+unfoldable pub lexemes-in : Tokens → List Lexeme
+lexemes-in (token t at ts) = t ∷ lexemes-in ts
+lexemes-in (ended at) = []
+lexemes-in (broken at) = []
 
 -- no token is bad
 unfoldable pub unbroken : Tokens → Bool
@@ -81,9 +82,9 @@ pub record Within-limits (letters : ℕ) (ts : List Lexeme) : Type 0 where
 -- what a text is that is read as a tree, with so many letters read by its end
 pub record Well-formed (letters : ℕ) (ts : Tokens) (e : Expr) (total : ℕ) : Type 0 where
   pub tokens : unbroken ts ≡ true
-  pub derived : Derives alternatives (words ts) e
-  pub limits : Within-limits letters (words ts)
-  pub count : letters + letters-in (words ts) ≡ total
+  pub derived : Derives alternatives (lexemes-in ts) e
+  pub limits : Within-limits letters (lexemes-in ts)
+  pub count : letters + letters-in (lexemes-in ts) ≡ total
 
 -- a text is read as a tree exactly if the grammar derives it with that tree, within the limits
 abbrev pub Reading-is-derivation : Type 0
@@ -95,12 +96,12 @@ Reading-is-derivation =
 abbrev pub One-tree : Type 0
 One-tree = (ts : List Lexeme) (d e : Expr) → Derives alternatives ts d → Derives alternatives ts e → d ≡ e
 
--- the tokens consist of some words and the rest
+-- the tokens consist of some lexemes and the rest
 pub data Splits : Tokens → List Lexeme → Tokens → Type 0 where
   here : (rest : Tokens) → Splits rest [] rest
   past : (t : Lexeme) (at : ℕ) (ts rest : Tokens) (ws : List Lexeme) → Splits ts ws rest → Splits (token t at ts) (t ∷ ws) rest
 
--- why a token is refused that stands after the words
+-- why a token is refused that stands after those lexemes
 abbrev pub Because : ℕ → List Lexeme → Lexeme → Reason → Type 0
 Because letters ws t reason =
     ((reason ≡ Grammar) × (Beginning (ws ++ (t ∷ [])) → ⊥))
@@ -108,13 +109,13 @@ Because letters ws t reason =
     × (((reason ≡ Deep) × (opens t ≡ true) × (open-after 0 ws ≡ 16))
     ⊎ ((reason ≡ Many) × (weight t ≡ 1) × (letters + letters-in ws ≡ 62))))
 
--- why the rest of the tokens is refused at a place, after the words
+-- why the rest of the tokens is refused at a place, after those lexemes
 abbrev pub Wrong : ℕ → List Lexeme → Tokens → Reason → ℕ → Type 0
 Wrong letters ws (token t at ts) reason place = (place ≡ at) × Because letters ws t reason
 Wrong letters ws (ended at) reason place = (place ≡ at) × (reason ≡ Grammar) × ((e : Expr) → Derives alternatives ws e → ⊥)
 Wrong letters ws (broken at) reason place = (place ≡ at) × (reason ≡ Token)
 
--- what a refused text is: words that begin a list of the grammar, within the limits, and then what is wrong
+-- what a refused text is: lexemes that begin a list of the grammar, within the limits, and then what is wrong
 pub record Refused-rightly (letters : ℕ) (ts : Tokens) (reason : Reason) (place : ℕ) : Type 0 where
   pub ws : List Lexeme
   pub rest : Tokens

@@ -1,8 +1,6 @@
 -- Path expressions as trees. Sequences and alternatives group to the left, as they are read, and brackets leave no other
 -- trace.
 use mathlib.Core.Bool.{Bool}
-use mathlib.Core.List.{List}
-use Prim.Native.Nat.{ℕ}
 use Rattle.lexer.specs.Names.{Name, lawful}
 use Rattle.std.specs.shelf.Text.{sameBytes}
 

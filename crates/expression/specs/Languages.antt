@@ -1,13 +1,13 @@
 -- The language of a path expression: the set of paths that it stands for, and the same by derivatives.
 use mathlib.Core.Path.{_≡_}
 use mathlib.Core.Bool.{Bool, true, false, cond, _&&_, _||_}
-use mathlib.Core.List.{List, [], _∷_, _++_}
+use mathlib.Core.List.{[], _∷_, _++_}
 use mathlib.Core.Logic.{_⊎_, _↔_}
 use Rattle.lexer.specs.Names.{Name, Path}
 use Rattle.std.specs.Options.{isSome}
 use Rattle.std.specs.declared.option.Option.{Option}
 use Rattle.std.specs.declared.option.Option.the-variants.{Some, None}
-use Rattle.expression.specs.Expressions.{Letter, Expr, empty, letter, alternative, sequence, star, fits}
+use Rattle.expression.specs.Expressions.{Expr, empty, letter, alternative, sequence, star, fits}
 
 -- paths joined from any number of paths of P
 pub data Repeated (P : Path → Type 0) : Path → Type 0 where

@@ -3,7 +3,7 @@
 --   item = base [ "*" ]                        base = name | "?" | "(" [ alternative ] ")"
 -- At most 16 brackets are open together. Names and `?` are letters; the two texts of a contract have at most 62 together.
 -- The first token to which a reason applies decides, and at one token the lower number: Token, Grammar, Deep, Many.
-use mathlib.Core.Bool.{Bool, true, false, cond, _&&_}
+use mathlib.Core.Bool.{Bool, false, cond, _&&_}
 use mathlib.Core.List.{List, [], _∷_}
 use Prim.Native.Nat.{ℕ, _+_}
 use lib.Dec.{leb, eqb}
@@ -14,7 +14,7 @@ use Rattle.lexer.specs.declared.refusal.Reason.the-variants.{Long, Token, Gramm
 use Rattle.lexer.specs.declared.token.Language.the-variants.{PathExpression}
 use Rattle.std.specs.declared.option.Option.{Option}
 use Rattle.std.specs.declared.option.Option.the-variants.{Some, None}
-use Rattle.expression.specs.Expressions.{Letter, any, named, Expr, empty, letter, alternative, sequence, star}
+use Rattle.expression.specs.Expressions.{any, named, Expr, empty, letter, alternative, sequence, star}
 
 -- inside one bracket: the alternatives before the last `|`, and the sequence before the last `.` after it
 pub record Level : Type 0 where

@@ -1,6 +1,6 @@
 //! Path expressions in postfix order.
 
-/// Puts an operand down, or takes up the last one or two and puts down what it makes of them.
+/// An operation adds an operand to a stack, or replaces the last one or two by what it makes of them.
 #[derive(Clone, Copy)]
 pub enum Operation {
     /// `()`.

@@ -9,6 +9,7 @@ ghost use Rattle.std.specs.declared.option.Option.the-variants.{Some};
 use crate::letter::Letter;
 use crate::operation::Operation;
 use crate::tables::Letters;
+use crate::tables::MAX_OPEN;
 use crate::tables::Postfix;
 use lexer::name::Name;
 use lexer::reader::Reader;
@@ -17,9 +18,6 @@ use lexer::refusal::Refusal;
 use lexer::token::Language;
 use lexer::token::Placed;
 use lexer::token::Token;
-
-/// The most brackets that are open together.
-pub const MAX_OPEN: usize = 16;
 
 /// The refusal of a token that cannot come where it stands.
 fn misplaced(next: Placed) -> Refusal
@@ -54,7 +52,7 @@ fn accept(reader: &mut Reader, sign: u8) -> bool
 }
 
 /// Passes the next token, which is this letter, and writes it down, unless there are too many.
-fn letter(
+fn read_letter(
     reader: &mut Reader,
     out: &mut Postfix,
     letters: &mut Letters,
@@ -121,11 +119,11 @@ fn base(
     match next.token {
         Token::Name(bytes) => {
             let name = Name::new(bytes).unwrap();
-            letter(reader, out, letters, Letter::Named(name))
+            read_letter(reader, out, letters, Letter::Named(name))
         }
         Token::Sign(b) => {
             if b == b'?' {
-                return letter(reader, out, letters, Letter::Any);
+                return read_letter(reader, out, letters, Letter::Any);
             }
             if b == b'(' {
                 return bracket(reader, out, letters, depth);

@@ -10,6 +10,9 @@ pub mod methods;
 /// The most bytes that a text of a contract has.
 pub const MAX_TEXT: usize = 400;
 
+/// The most brackets that are open together.
+pub const MAX_OPEN: usize = 16;
+
 /// The most letters that the two texts of a contract have.
 pub const MAX_LETTERS: usize = 62;
 

@@ -9,14 +9,13 @@ use native.Mathlib.Omega.{arith}
 use lib.Dec.{leb, eqb}
 use lib.ListN.{length, getD, take, drop, length-take}
 use Rattle.std.specs.shelf.Lists.{leading}
-use Rattle.std.specs.declared.option.Option.{Option}
 use Rattle.std.specs.declared.option.Option.the-variants.{Some, None}
 use Rattle.std.proofs.shelf.Lists.{drop-all, drop-more, getD-drop}
 use Rattle.std.proofs.shelf.Sums.{leading-drop-yes}
 use Rattle.std.proofs.shelf.Tests.{ne-eqb, le-leb, lt-leb, and-left, and-right, and-from, and-parts, cases-eq}
 use Rattle.lexer.specs.Classes.{class-of, classed, between}
 use Rattle.lexer.specs.Names.{plain, lawful}
-use Rattle.lexer.specs.Tokens.{Lexed, lexed, name, number, sign, equals, end, bad, decimal, lex, past-blanks, front, by-class, named, numbered, signed, starts, numbers, part, Lies}
+use Rattle.lexer.specs.Tokens.{lexed, name, number, sign, equals, end, bad, decimal, lex, past-blanks, front, by-class, named, numbered, signed, starts, numbers, part, Lies}
 use Rattle.lexer.specs.declared.token.Placed.{Placed}
 use Rattle.lexer.specs.declared.token.Language.{Language}
 

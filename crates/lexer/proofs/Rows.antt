@@ -1,6 +1,6 @@
 -- The tokens from a place on are the first of them and the tokens after it.
-use mathlib.Core.Path.{_≡_, refl, sym, ap, _∙_}
-use mathlib.Core.Bool.{Bool, true, false, cond, _&&_}
+use mathlib.Core.Path.{_≡_, refl, ap, _∙_}
+use mathlib.Core.Bool.{true, _&&_}
 use mathlib.Core.List.{List, [], _∷_}
 use Prim.Native.Nat.{ℕ, zero, suc, _+_, _-_, _<_, _≤_}
 use native.Mathlib.Omega.{arith}
@@ -10,7 +10,7 @@ use Rattle.std.specs.shelf.Lists.{leading}
 use Rattle.std.proofs.shelf.Sums.{leading-le-length}
 use Rattle.std.proofs.shelf.Tests.{cond-both, eqb-true, and-parts}
 use Rattle.lexer.specs.Classes.{class-of, classed, between}
-use Rattle.lexer.specs.Tokens.{Lexeme, name, number, sign, equals, end, bad, Lexed, lexed, decimal, lex, past-blanks, front, by-class, named, numbered, signed, starts, numbers, Tokens, then, tokens-within, tokens}
+use Rattle.lexer.specs.Tokens.{Lexeme, name, number, sign, equals, end, bad, Lexed, lexed, decimal, lex, past-blanks, front, named, numbered, signed, starts, numbers, Tokens, then, tokens-within, tokens, Tokens-go-on}
 use Rattle.lexer.specs.declared.token.Language.{Language}
 
 -- a token that is there takes a byte at least
@@ -53,7 +53,7 @@ second (b ∷ bs) e = omega arith
 fine-sign : (at b : ℕ) (bs : List ℕ) → Fine at (suc (length bs)) (signed at b bs)
 fine-sign at b bs =
     cond-both (eqb b 61 && eqb (getD bs 0 0) 61) (lexed equals at (at + 2)) (lexed (sign b) at (at + 1)) (Fine at (suc (length bs)))
-    (λ e. let more = second bs (eqb-true _ _ (and-parts _ _ e .1)) in (omega arith, omega arith))
+    (λ e. let more : 1 ≤ length bs = second bs (eqb-true _ _ (and-parts _ _ e .1)) in (omega arith, omega arith))
     (λ _. (omega arith, omega arith))
 
 fine-front : (l : Language) (at : ℕ) (bs : List ℕ) → Fine at (length bs) (front l at bs)
@@ -105,7 +105,7 @@ enough l text (suc m) (suc n) at h a b =
     same-then (lex l text at .lexeme) at (lex l text at .start) (lex l text at .stop) _ _ (f .0)
     (λ on. enough l text m n (lex l text at .stop) (f .1) (omega arith) (omega arith))
 
-pub tokens-step : (l : Language) (text : List ℕ) (at : ℕ) → at ≤ length text → tokens l text at ≡ then (lex l text at .lexeme) (lex l text at .start) (tokens l text (lex l text at .stop))
+pub tokens-step : Tokens-go-on
 unfolding tokens tokens-within
 tokens-step l text at h =
     let f = found l text at h in

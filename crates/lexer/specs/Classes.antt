@@ -1,5 +1,5 @@
 -- The class of a byte, by ranges: 0 none, 1 blank, 2 letter, 3 digit, 4 sign.
-use mathlib.Core.Bool.{Bool, true, false, cond, _&&_, _||_}
+use mathlib.Core.Bool.{Bool, false, cond, _&&_, _||_}
 use mathlib.Core.List.{List, [], _∷_}
 use Prim.Native.Nat.{ℕ}
 use lib.Dec.{leb, eqb}

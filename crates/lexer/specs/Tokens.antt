@@ -126,11 +126,17 @@ then equals at ts = token equals at ts
 then end at ts = ended at
 then bad at ts = broken at
 
--- at most n tokens from a place on
+-- the first n tokens from a place on, as though the text ended after them
 unfoldable pub tokens-within : ℕ → Language → List ℕ → ℕ → Tokens
 tokens-within zero l text at = ended at
 tokens-within (suc n) l text at = then (lex l text at .lexeme) (lex l text at .start) (tokens-within n l text (lex l text at .stop))
 
--- the tokens from a place on: a text has no more tokens than bytes
+-- the tokens from a place on: there are no more of them than bytes
 unfoldable pub tokens : Language → List ℕ → ℕ → Tokens
 tokens l text at = tokens-within (suc (length text - at)) l text at
+
+-- the tokens from a place on are the next one and those after it, up to the end of the text or a bad token
+abbrev pub Tokens-go-on : Type 0
+Tokens-go-on =
+    (l : Language) (text : List ℕ) (at : ℕ) → at ≤ length text
+    → tokens l text at ≡ then (lex l text at .lexeme) (lex l text at .start) (tokens l text (lex l text at .stop))

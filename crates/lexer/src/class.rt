@@ -2,9 +2,7 @@
 ghost use mathlib.Core.Path.{_≡_};
 ghost use Rattle.lexer.specs.Classes.{class-of, classed};
 
-/// Starts no token.
-pub const NONE: u8 = 0;
-
+/// Tab, line feed, carriage return, space. Class 0 is that of the bytes that start no token.
 pub const BLANK: u8 = 1;
 
 pub const LETTER: u8 = 2;

@@ -4,4 +4,5 @@ pub mod class;
 pub mod name;
 pub mod reader;
 pub mod refusal;
+pub mod theorems;
 pub mod token;

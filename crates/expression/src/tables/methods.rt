@@ -34,9 +34,7 @@ impl Postfix {
         self.operations[place] = operation;
         self.used = place + 1;
     }
-}
 
-impl Postfix {
     /// The operations of the table.
     pub(crate) fn as_slice(&self) -> &[Operation]
         ensures operations { λ r. ⌜ now r ≡ operations-of (now (self .entry)) ⌝ }
@@ -47,14 +45,6 @@ impl Postfix {
 }
 
 impl Letters {
-    /// The letters of the table.
-    pub(crate) fn as_slice(&self) -> &[Letter]
-        ensures letters { λ r. ⌜ map letter-of (now r) ≡ letters-of (now (self .entry)) ⌝ }
-        ensures few { λ r. ⌜ length (now r) ≤ 62 ⌝ }
-    {
-        &self.table[0..self.used]
-    }
-
     /// A table with no letter.
     pub(crate) fn new() -> Letters
         ensures letters { λ r. ⌜ letters-of r ≡ [] ⌝ }
@@ -87,5 +77,13 @@ impl Letters {
         self.table[place] = letter;
         self.used = place + 1;
         true
+    }
+
+    /// The letters of the table.
+    pub(crate) fn as_slice(&self) -> &[Letter]
+        ensures letters { λ r. ⌜ map letter-of (now r) ≡ letters-of (now (self .entry)) ⌝ }
+        ensures few { λ r. ⌜ length (now r) ≤ 62 ⌝ }
+    {
+        &self.table[0..self.used]
     }
 }

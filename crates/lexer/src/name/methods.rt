@@ -38,6 +38,7 @@ impl Name {
     pub fn new(bytes: &[u8]) -> Option<Name>
         ensures { λ r. ⌜ mapped spelled r ≡ cond (lawful (now (bytes .entry))) (Some (now (bytes .entry))) None ⌝ }
     {
+        // The second test says nothing new; it bounds the copy.
         if !is_lawful(bytes) || bytes.len() > MAX_NAME {
             return None;
         }

@@ -1,11 +1,11 @@
-use mathlib.Core.Path.{_≡_, refl, sym, ap, _∙_, subst}
+use mathlib.Core.Path.{_≡_, sym, ap, _∙_}
 use mathlib.Core.List.{[], _∷_}
 use Prim.Native.Nat.{ℕ, _+_, _-_, _<_}
 use native.Mathlib.Omega.{arith}
 use lib.ListN.{length, take, drop}
 use Rattle.std.proofs.shelf.Tests.{eqb-true, eqb-false}
 use Rattle.std.specs.declared.result.Result.the-variants.{Ok, Err}
-use Rattle.contract.specs.PathTexts.{spell, permitted, path, read-path}
+use Rattle.contract.specs.PathTexts.{spell, permitted, path}
 use Rattle.contract.proofs.Spelled.{from-start, empty-text, starts-name, wrong-start, ends-name, goes-on, wrong-byte, too-long, ends-text, ends-wrong, permitted-starting}
 use Rattle.contract.proofs.path_text.permits_text.Needs as need
 use Rattle.contract.proofs.path_text.permits_text.Needs.{then-not-is-classed-2·by·then-not-is-classed-2, then-not-is-classed-2·by·else-not-is-classed-2·then-i-from-ge-MAX-NAME, then-i-from·else-not-is-classed, else-i-from·then-b-eq46, else-i-from·else-b-eq46·else-not-is-classed-2·else-i-from-ge-MAX-NAME}

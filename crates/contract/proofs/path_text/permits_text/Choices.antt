@@ -1,6 +1,6 @@
 use mathlib.Core.Path.{_≡_}
 use Prim.Native.Nat.{_≤_, _-_}
-use lib.ListN.{length, drop, take}
+use lib.ListN.{drop, take}
 use Rattle.contract.specs.PathTexts.{spell, read-path, permitted}
 use Rattle.contract.proofs.path_text.permits_text.Given as given
 

@@ -1,5 +1,4 @@
-use mathlib.Core.Path.{refl, sym, ap, _∙_}
-use native.Mathlib.Omega.{arith}
+use mathlib.Core.Path.{refl, ap, _∙_}
 use Rattle.std.proofs.shelf.Results.{err-from-errBy}
 use Rattle.expression.specs.Parsing.{reason-at}
 use Rattle.expression.proofs.Advances.{taken}
@@ -65,10 +64,10 @@ bracket-returns-else-accept-2 t c =
     unclosed-refused (c .pre .next) (taken (c .take-open .result) (c .take-open .ensures .is) (c .take-open .ensures .after)) (c .if-depth-ge-MAX-OPEN .left) (c .if-accept .ensures tt) (c .in-Continue-alternative .ensures tt) (c .if-accept-2 .ensures tt) refl refl (c .misplaced .ensures .reason ∙ ap (λ x. reason-at (x .lexeme)) (c .peek .ensures .is)) (c .misplaced .ensures .place ∙ ap (λ x. x .start) (c .peek .ensures .is))
 
 pub base-returns-then-b-eq63 : need.base-returns-then-b-eq63
-base-returns-then-b-eq63 t c = c .letter-then-b-eq63 .ensures (c .args .depth)
+base-returns-then-b-eq63 t c = c .read-letter-then-b-eq63 .ensures (c .args .depth)
 
 pub base-returns-in-Name : need.base-returns-in-Name
-base-returns-in-Name t c = c .letter .ensures (c .args .depth)
+base-returns-in-Name t c = c .read-letter .ensures (c .args .depth)
 
 pub base-returns-else-b-eq40 : need.base-returns-else-b-eq40
 base-returns-else-b-eq40 t c =

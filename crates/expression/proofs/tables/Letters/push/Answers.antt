@@ -1,7 +1,7 @@
 use mathlib.Core.Path.{refl, ap, sym, _∙_}
 use borrow.Author.Needs.{needs}
 use Prim.Native.Nat.{_<_}
-use mathlib.Core.List.{map, [], _∷_}
+use mathlib.Core.List.{[], map, _∷_}
 use lib.ListN.{length, take}
 use Rattle.std.proofs.shelf.Lists.{take-more-set, map-append}
 use Rattle.std.proofs.shelf.Tests.{lt-ltb}

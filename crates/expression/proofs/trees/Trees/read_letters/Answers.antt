@@ -1,4 +1,3 @@
-use mathlib.Core.Path.{_∙_, sym, ap}
 use Rattle.expression.proofs.Tabled.{read-letters-are}
 use Rattle.expression.proofs.trees.Trees.read_letters.Needs as need
 

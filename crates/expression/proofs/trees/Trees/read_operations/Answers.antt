@@ -1,4 +1,4 @@
-use mathlib.Core.Path.{_∙_, sym, ap}
+use mathlib.Core.Path.{_∙_}
 use Rattle.expression.proofs.Tabled.{read-operations-are}
 use Rattle.expression.proofs.trees.Trees.read_operations.Needs as need
 

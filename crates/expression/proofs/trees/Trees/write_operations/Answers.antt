@@ -1,4 +1,4 @@
-use mathlib.Core.Path.{_∙_, sym, ap}
+use mathlib.Core.Path.{_∙_}
 use Rattle.expression.proofs.Tabled.{write-operations-are}
 use Rattle.expression.proofs.trees.Trees.write_operations.Needs as need
 

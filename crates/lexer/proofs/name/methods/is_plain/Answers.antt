@@ -1,5 +1,4 @@
-use mathlib.Core.Path.{refl, sym, ap, _∙_}
-use Rattle.lexer.specs.Names.{plain}
+use mathlib.Core.Path.{sym, _∙_}
 use Rattle.lexer.proofs.Spelling.{plain-step, plain-end}
 use Rattle.lexer.proofs.name.methods.is_plain.Needs as need
 

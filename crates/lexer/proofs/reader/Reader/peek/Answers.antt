@@ -1,4 +1,4 @@
-use mathlib.Core.Path.{sym, refl, _∙_}
+use mathlib.Core.Path.{sym, _∙_}
 use native.Mathlib.Omega.{arith}
 use Rattle.lexer.proofs.Fronts.{lex-end, lex-name, lex-number, lex-sign, lex-bad, from}
 use Rattle.lexer.proofs.reader.Reader.peek.Needs as need

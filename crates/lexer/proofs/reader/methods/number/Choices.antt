@@ -1,6 +1,6 @@
 use mathlib.Core.Path.{_≡_}
 use mathlib.Core.Logic.{_⊎_}
-use Prim.Native.Nat.{_<_, _≤_, _^_}
+use Prim.Native.Nat.{_<_, _^_}
 use lib.ListN.{take}
 use Rattle.lexer.specs.Tokens.{decimal}
 use Rattle.lexer.proofs.reader.methods.number.Given as given

@@ -2,7 +2,7 @@ use mathlib.Core.Path.{refl, sym, ap}
 use Rattle.std.proofs.shelf.Tests.{ltb-true, ltb-false}
 use Rattle.expression.proofs.Advances.{taken}
 use Rattle.expression.proofs.Operands.{letter-read, letter-refused}
-use Rattle.expression.proofs.parser.letter.Needs as need
+use Rattle.expression.proofs.parser.read_letter.Needs as need
 
 pub returns-then-not-push : need.returns-then-not-push
 returns-then-not-push c =
