@@ -3,3 +3,4 @@ pub mod Depths
 pub mod Walks
 pub mod Spelled
 pub mod Opened
+pub mod Dotted

@@ -3,3 +3,4 @@ pub mod Depths
 pub mod Paths
 pub mod PathTexts
 pub mod ExpressionTerms
+pub mod Dotted

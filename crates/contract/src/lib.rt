@@ -6,3 +6,4 @@ pub mod expressions;
 pub mod laws;
 pub mod path_text;
 pub mod permits;
+pub mod theorems;

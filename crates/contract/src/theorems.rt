@@ -1,0 +1,12 @@
+//! The laws of paths as texts: the contract of each function is one.
+ghost use Rattle.contract.specs.Dotted.{Texts-are-dotted-paths, Wrong-texts-are-first-wrong};
+
+/// A text is read as a path exactly if it is the path's lawful names with dots between them.
+pub fn texts_are_dotted_paths()
+    ensures { λ _. ⌜ Texts-are-dotted-paths ⌝ }
+{}
+
+/// The place of a wrong text is that of the first byte that no text of a path has there.
+pub fn wrong_texts_are_first_wrong()
+    ensures { λ _. ⌜ Wrong-texts-are-first-wrong ⌝ }
+{}
