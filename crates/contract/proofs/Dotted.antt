@@ -103,6 +103,7 @@ begun (c ∷ cs) = lawful (c ∷ cs)
 record Stop (at : ℕ) (cur : Name) (bytes : List ℕ) (place : ℕ) : Type 0 where
   steps : ℕ
   is : place ≡ at + steps
+  within : steps ≤ length bytes
   first : Name
   others : Path
   rest : List ℕ
@@ -118,8 +119,8 @@ Tells at cur bytes (wrong place) = Stop at cur bytes place
 -- the first byte is wrong, or there is none
 stops : (at : ℕ) (cur : Name) (bytes : List ℕ) → begun cur ≡ true → (0 < length bytes → (more : List ℕ) → spell at cur (take 1 bytes ++ more) ≡ wrong at) → Stop at cur bytes at
 unfolding dotted class-of
-stops at [] bytes h alike = record { steps = 0; is = omega arith; first = 97 ∷ []; others = []; rest = 97 ∷ []; law = refl; begins = refl; alike = alike }
-stops at (c ∷ cs) bytes h alike = record { steps = 0; is = omega arith; first = c ∷ cs; others = []; rest = []; law = and-from _ _ h refl; begins = sym (append-nil (c ∷ cs)); alike = alike }
+stops at [] bytes h alike = record { steps = 0; is = omega arith; within = omega arith; first = 97 ∷ []; others = []; rest = 97 ∷ []; law = refl; begins = refl; alike = alike }
+stops at (c ∷ cs) bytes h alike = record { steps = 0; is = omega arith; within = omega arith; first = c ∷ cs; others = []; rest = []; law = and-from _ _ h refl; begins = sym (append-nil (c ∷ cs)); alike = alike }
 
 -- the first byte belongs to the name
 goes-on : (at : ℕ) (cur : Name) (b : ℕ) (bs : List ℕ) (r : PathText) → ((more : List ℕ) → spell at cur (b ∷ more) ≡ spell (at + 1) (cur ++ (b ∷ [])) more) → Tells (at + 1) (cur ++ (b ∷ [])) bs r → Tells at cur (b ∷ bs) r
@@ -127,6 +128,7 @@ goes-on at cur b bs (path p) each t = (rw append-assoc at (t .0), t .1, t .2)
 goes-on at cur b bs (wrong place) each t = record {
   steps = suc (t .steps);
   is = omega arith;
+  within = omega (arith, t .within);
   first = t .first;
   others = t .others;
   rest = t .rest;
@@ -141,6 +143,7 @@ past-dot at n bs (path p) h t = (dotted-more n p (t .2) ∙ ap (λ w. n ++ (46 �
 past-dot at n bs (wrong place) h t = record {
   steps = suc (t .steps);
   is = omega arith;
+  within = omega (arith, t .within);
   first = n;
   others = t .first ∷ t .others;
   rest = t .rest;
@@ -202,6 +205,7 @@ wrong-texts-are-first-wrong (b ∷ bs) at h =
     let here : t .steps ≡ at = omega arith in
     let next : suc (t .steps) ≡ at + 1 = omega arith in
     record {
+      within = omega (arith, t .within);
       before = (t .first ∷ t .others, t .rest, t .law, subst (λ j. dotted (t .first ∷ t .others) ≡ take j (b ∷ bs) ++ t .rest) here (t .begins));
       inside = λ l q. no-path (take (at + 1) (b ∷ bs) ++ q .1) at (subst (λ j. read-path (take j (b ∷ bs) ++ q .1) ≡ wrong at) next (t .alike (omega arith) (q .1))) (q .0) (q .2) (q .3);
       whole = no-path (b ∷ bs) at h;

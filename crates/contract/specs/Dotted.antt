@@ -4,7 +4,7 @@ use mathlib.Core.Path.{_≡_}
 use mathlib.Core.Bool.{true}
 use mathlib.Core.List.{List, [], _∷_, _++_}
 use mathlib.Core.Logic.{_↔_}
-use Prim.Native.Nat.{ℕ, _+_, _<_}
+use Prim.Native.Nat.{ℕ, _+_, _<_, _≤_}
 use lib.ListN.{length, take}
 use Rattle.lexer.specs.Names.{Path, all-lawful}
 use Rattle.contract.specs.PathTexts.{path, wrong, read-path}
@@ -26,6 +26,7 @@ Begins-a-path bytes = (p : Path) × (rest : List ℕ) × (all-lawful p ≡ true)
 -- the bytes before the place begin the text of a path; with the byte at the place they begin none, or the text ends there
 -- and is no path
 pub record First-wrong (text : List ℕ) (at : ℕ) : Type 0 where
+  pub within : at ≤ length text
   pub before : Begins-a-path (take at text)
   pub inside : at < length text → Begins-a-path (take (at + 1) text) → ⊥
   pub whole : (p : Path) → all-lawful p ≡ true → dotted p ≡ text → ⊥

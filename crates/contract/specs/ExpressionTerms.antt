@@ -1,10 +1,12 @@
 -- What a contract by two path expressions permits.
+use mathlib.Core.Path.{_≡_}
+use mathlib.Core.Logic.{_↔_}
 use mathlib.Core.Bool.{Bool, true, false, cond}
-use mathlib.Core.List.{[], _∷_}
+use mathlib.Core.List.{[], _∷_, _++_}
 use Prim.Native.Nat.{ℕ}
 use Rattle.automaton.specs.Residues.{reads-left, writes-left}
 use Rattle.expression.specs.Expressions.{Expr}
-use Rattle.expression.specs.Languages.{begins, accepts}
+use Rattle.expression.specs.Languages.{In, begins, accepts}
 use Rattle.expression.specs.Reading.{Reading, trees, refusal}
 use Rattle.expression.specs.Texts.{text-number}
 use Rattle.expression.specs.declared.texts.TextRefusal.{TextRefusal}
@@ -59,3 +61,12 @@ refusal-in (refusal reason text place) = Some (record { reason = reason; text = 
 abbrev pub refusal-told : Result (Unit {0}) TextRefusal → Option Told
 refusal-told (Ok _) = None
 refusal-told (Err x) = Some (record { reason = x .reason; text = text-number (x .text); place = x .place })
+
+-- what two trees permit, by union, joining and repetition: a path is readable exactly if it begins a path of the read
+-- tree's language, and writable exactly if it is in the write tree's
+pub record By-languages (e d : Expr) (p : Path) : Type 0 where
+  pub reads : (by-trees e d .reads p ≡ true) ↔ ((v : Path) × In e (p ++ v))
+  pub writes : (by-trees e d .writes p ≡ true) ↔ In d p
+
+abbrev pub Trees-permit-their-languages : Type 0
+Trees-permit-their-languages = (e d : Expr) (p : Path) → By-languages e d p

@@ -91,17 +91,46 @@ fn document<S: Store + Drop>(rt: &LibcRuntime, empty: S) -> Result<(), AnyError>
     Ok(())
 }
 
-/// How many puts of one property the store takes, and the number of the refusal that follows.
+fn letter(number: u16) -> u8 {
+    b'a'.saturating_add((number % 16) as u8)
+}
+
+/// Three letters: another name for each number below 4,096.
+fn name_of(number: u16) -> [u8; 3] {
+    [letter(number / 256), letter(number / 16), letter(number)]
+}
+
+/// How many of the first n names the root has with their own numbers.
+fn held<S: Store>(store: &S, n: u16) -> u16 {
+    let mut held = 0u16;
+    for number in 0..n {
+        if let Ok(Value::Number(found)) = store.get(0, &name_of(number)) {
+            if found == number as i32 {
+                held = held.saturating_add(1);
+            }
+        }
+    }
+    held
+}
+
+/// Puts a number on one new property after another until the store refuses; says how many it took, by what number it
+/// refused, and how many of them it holds then.
 fn fill<S: Store>(rt: &LibcRuntime, store: &mut S) -> Result<(), AnyError> {
-    let mut taken = 0u32;
-    for _ in 0..5000 {
-        if store.put(0, b"a", Value::Number(1)).is_err() {
+    let mut taken = 0u16;
+    for number in 0..4096u16 {
+        if store
+            .put(0, &name_of(number), Value::Number(number as i32))
+            .is_err() {
             break;
         }
         taken = taken.saturating_add(1);
     }
-    let number = answer_number(store.put(0, b"a", Value::Number(1)));
-    println!(rt, "  takes {taken} puts, then {number}")?;
+    let number = answer_number(store.put(0, &name_of(taken), Value::Number(0)));
+    let held = held(store, taken);
+    println!(
+        rt,
+        "  takes {taken} new properties, then {number}; holds {held} of them"
+    )?;
     Ok(())
 }
 

@@ -38,13 +38,6 @@ impl Automaton {
         }
     }
 
-    /// The trees.
-    pub fn trees(&self) -> &Trees
-        ensures { λ r. ⌜ now r ≡ trees-of (now (self .entry)) ⌝ }
-    {
-        &self.trees
-    }
-
     /// The residue after the name: what it leaves is what was left with the name before it.
     pub fn step(&self, at: u64, name: &[u8]) -> u64
         ensures reads { λ r. ⌜ ((q : Path) → reads-left (now (self .entry)) r q ≡ reads-left (now (self .entry)) at (now (name .entry) ∷ q)) ⌝ }
