@@ -1,7 +1,7 @@
--- What each table means is lawful.
+-- What each table means is lawful, and what its calls spare.
 use mathlib.Core.Bool.{Bool, true, false, cond}
 use mathlib.Core.List.{List, [], _∷_}
-use mathlib.Core.Path.{_≡_, refl}
+use mathlib.Core.Path.{_≡_, refl, _∙_}
 use Prim.Native.Nat.{ℕ, suc, _<_}
 use native.Mathlib.Omega.{arith}
 use denote.Ref.{now}
@@ -12,7 +12,7 @@ use Rattle.store.specs.Records.{fits, latest}
 use Rattle.store.specs.declared.value.Value.{Value}
 use Rattle.store.specs.declared.value.Value.the-variants.{Nothing}
 use Rattle.table.specs.Cells.{owner, called, value-of, Each}
-use Rattle.table.specs.Tables.{means-of, used-of}
+use Rattle.table.specs.Tables.{means-of, used-of, Spares}
 use Rattle.table.specs.declared.cell.Cell.{Cell}
 use Rattle.table.specs.declared.node_table.NodeTable.{NodeTable}
 
@@ -32,3 +32,9 @@ table-lawful t =
       few = t .few;
       closed = λ o n. latest-inside (t .objects) (fits owner called o n) (used-of t) Nothing (λ k d h. let l = length-take (t .used) (now (t .cells)) in let u : k < t .used = omega arith in rw getD-take (t .closed k d u)) refl;
     }
+
+pub spares-still : (t : NodeTable) → Spares t t
+spares-still t = record { lender = refl; size = refl; past = refl }
+
+pub spares-chains : (s t u : NodeTable) → Spares s t → Spares t u → Spares s u
+spares-chains s t u h k = record { lender = k .lender ∙ h .lender; size = k .size ∙ h .size; past = k .past ∙ h .past }

@@ -1,8 +1,9 @@
 -- What a table means.
 use mathlib.Core.List.{List}
+use mathlib.Core.Path.{_≡_}
 use Prim.Native.Nat.{ℕ, min, max}
-use denote.Ref.{now}
-use lib.ListN.{take}
+use denote.Ref.{now, name}
+use lib.ListN.{length, take, drop}
 use Rattle.std.specs.declared.option.Option.{Option}
 use Rattle.lexer.specs.Names.{Name}
 use Rattle.store.specs.Meaning.{Graph, Meaning}
@@ -33,3 +34,10 @@ empty objects left = record { objects = objects; graph = λ o n. Nothing; left =
 -- the place of the cell of a property
 abbrev pub place-in : NodeTable → ℕ → Name → Option ℕ
 place-in t o n = last-place (fits owner called o n) (used-of t)
+
+-- what every call leaves: the cells are those that were lent, as many as they were, and those past the first 4,096 hold what
+-- they held
+pub record Spares (s t : NodeTable) : Type 0 where
+  pub lender : name (t .cells) ≡ name (s .cells)
+  pub size : length (now (t .cells)) ≡ length (now (s .cells))
+  pub past : drop 4096 (now (t .cells)) ≡ drop 4096 (now (s .cells))

@@ -2,12 +2,13 @@
 ghost use mathlib.Core.Bool.{true};
 ghost use mathlib.Core.Path.{_≡_};
 ghost use Prim.Native.Nat.{_<_, _≤_};
+ghost use denote.Ref.{name as lender};
 ghost use lib.ListN.{length};
 ghost use Rattle.std.specs.Options.{Cases};
 ghost use Rattle.store.specs.Meaning.{inside, set-in};
 ghost use Rattle.table.specs.Cells.{usable};
-ghost use Rattle.table.specs.Kept.{table-lawful};
-ghost use Rattle.table.specs.Tables.{means-of, empty, clamped, place-in};
+ghost use Rattle.table.specs.Kept.{table-lawful, spares-still, spares-chains};
+ghost use Rattle.table.specs.Tables.{means-of, empty, clamped, place-in, Spares};
 use crate::cell::Cell;
 use crate::cell::CellRecord;
 use crate::node_table::NodeTable;
@@ -27,7 +28,9 @@ pub const MAX_CELLS: usize = 4096;
 impl<'a> NodeTable<'a> {
     /// An empty table of `n` objects, 1 where `n` is 0 and 1,024 where it is more, whatever the cells held.
     pub fn new(cells: &'a mut [Cell], n: u16) -> NodeTable<'a>
-        ensures { λ r. ⌜ means-of r ≡ empty (clamped n) (usable (now (cells .entry))) ⌝ }
+        ensures means { λ r. ⌜ means-of r ≡ empty (clamped n) (usable (now (cells .entry))) ⌝ }
+        ensures cells { λ r. ⌜ now (r .cells) ≡ now (cells .entry) ⌝ }
+        ensures lender { λ r. ⌜ lender (r .cells) ≡ lender (cells .entry) ⌝ }
     {
         let left = cells.len().min(MAX_CELLS);
         NodeTable {
@@ -51,7 +54,8 @@ impl<'a> NodeTable<'a> {
         requires left { ⌜ 0 < now self .left ⌝ }
         requires short { ⌜ length (now name) ≤ 24 ⌝ }
         requires target { ⌜ inside (now self .objects) value ≡ true ⌝ }
-        ensures { λ _. ⌜ means-of (now (self .exit)) ≡ set-in (means-of (now (self .entry))) object (now (name .entry)) value ⌝ }
+        ensures means { λ _. ⌜ means-of (now (self .exit)) ≡ set-in (means-of (now (self .entry))) object (now (name .entry)) value ⌝ }
+        ensures spares { λ _. ⌜ Spares (now (self .entry)) (now (self .exit)) ⌝ }
     {
         let used = self.used;
         let place = self.find(object, name);
@@ -80,11 +84,11 @@ pub impl<'a> Store for NodeTable<'a> as NodeTableStore {
 
     ghost lawful = { table-lawful };
 
-    ghost stays = { λ _ _. Unit {0} };
+    ghost stays = { Spares };
 
-    ghost still = { λ _. tt };
+    ghost still = { spares-still };
 
-    ghost chains = { λ _ _ _ _ _. tt };
+    ghost chains = { spares-chains };
 
     fn count(&self) -> u16 {
         self.objects

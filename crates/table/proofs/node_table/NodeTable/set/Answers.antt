@@ -1,9 +1,9 @@
 use mathlib.Core.List.{[]}
-use mathlib.Core.Path.{_≡_, sym, ap, _∙_}
+use mathlib.Core.Path.{_≡_, refl, sym, ap, _∙_}
 use Prim.Native.Nat.{_+_, _-_, _<_}
 use native.Mathlib.Omega.{arith}
 use lib.ListN.{length, getD, set, take}
-use Rattle.std.proofs.shelf.Lists.{getD-default, length-set}
+use Rattle.std.proofs.shelf.Lists.{getD-default, length-set, drop-set-lt}
 use Rattle.store.proofs.Apart.{apart-over, apart-past}
 use Rattle.store.specs.Meaning.{changed, inside}
 use Rattle.store.specs.declared.value.Value.the-variants.{Nothing}
@@ -113,14 +113,23 @@ returns-in-Some c =
     let found = c .in-Some .ensures tt in
     let room = t .room in
     let last : z ≡ getD cells (t .used - 1) z = getD-default cells (t .used - 1) none-there z (omega (arith, found .within)) in
-    meaning-from (t .objects) (t .left - 1) (graph-of (take (t .used - 1) (set cells i z))) (changed (graph-of (used-of t)) (c .args .object) (c .args .name .now) (c .args .value))
-    (λ p q. graph-removed cells (t .used) (c .args .object) (c .args .name .now) (c .args .value) p q i z (omega (arith, found .within)) (omega arith) (t .apart) (sym (found .place)) last (c .in-Nothing .is))
+    let few : i < 4096 = omega (arith, found .within) in
+    record {
+      means =
+          meaning-from (t .objects) (t .left - 1) (graph-of (take (t .used - 1) (set cells i z))) (changed (graph-of (used-of t)) (c .args .object) (c .args .name .now) (c .args .value))
+          (λ p q. graph-removed cells (t .used) (c .args .object) (c .args .name .now) (c .args .value) p q i z (omega (arith, found .within)) (omega arith) (t .apart) (sym (found .place)) last (c .in-Nothing .is));
+      spares = record { lender = refl; size = length-set cells i z; past = drop-set-lt 4096 cells i z few };
+    }
 
 pub returns-in-rest-place : need.returns-in-rest-place
 returns-in-rest-place c =
     let t = c .args .self .now in
-    meaning-from (t .objects) (t .left - 1) (graph-of (used-of t)) (changed (graph-of (used-of t)) (c .args .object) (c .args .name .now) (c .args .value))
-    (λ p q. graph-absent (t .cells .now) (t .used) (c .args .object) (c .args .name .now) (c .args .value) p q (sym (c .in-rest-place .ensures tt .place)) (c .in-Nothing .is))
+    record {
+      means =
+          meaning-from (t .objects) (t .left - 1) (graph-of (used-of t)) (changed (graph-of (used-of t)) (c .args .object) (c .args .name .now) (c .args .value))
+          (λ p q. graph-absent (t .cells .now) (t .used) (c .args .object) (c .args .name .now) (c .args .value) p q (sym (c .in-rest-place .ensures tt .place)) (c .in-Nothing .is));
+      spares = record { lender = refl; size = refl; past = refl };
+    }
 
 pub returns-in-Some-place : need.returns-in-Some-place
 returns-in-Some-place c =
@@ -129,8 +138,14 @@ returns-in-Some-place c =
     let y = c .new .result in
     let is = c .new .ensures in
     let found = c .in-Some-place .ensures tt in
-    meaning-from (t .objects) (t .left - 1) (graph-of (take (t .used) (set (t .cells .now) i y))) (changed (graph-of (used-of t)) (c .args .object) (c .args .name .now) (c .args .value))
-    (λ p q. graph-changed (t .cells .now) (t .used) (c .args .object) (c .args .name .now) (c .args .value) p q y (is .owner) (is .called) (is .value) i (found .within) (sym (found .place)))
+    let room = t .room in
+    let few : i < 4096 = omega (arith, found .within) in
+    record {
+      means =
+          meaning-from (t .objects) (t .left - 1) (graph-of (take (t .used) (set (t .cells .now) i y))) (changed (graph-of (used-of t)) (c .args .object) (c .args .name .now) (c .args .value))
+          (λ p q. graph-changed (t .cells .now) (t .used) (c .args .object) (c .args .name .now) (c .args .value) p q y (is .owner) (is .called) (is .value) i (found .within) (sym (found .place)));
+      spares = record { lender = refl; size = length-set (t .cells .now) i y; past = drop-set-lt 4096 (t .cells .now) i y few };
+    }
 
 pub returns-in-None : need.returns-in-None
 returns-in-None c =
@@ -140,5 +155,10 @@ returns-in-None c =
     let room = t .room in
     let some-left = c .pre .left in
     let free : t .used < length (t .cells .now) = omega arith in
-    meaning-from (t .objects) (t .left - 1) (graph-of (take (t .used + 1) (set (t .cells .now) (t .used) y))) (changed (graph-of (used-of t)) (c .args .object) (c .args .name .now) (c .args .value))
-    (λ p q. graph-pushed (t .cells .now) (t .used) (c .args .object) (c .args .name .now) (c .args .value) p q y (is .owner) (is .called) (is .value) free)
+    let few : t .used < 4096 = omega arith in
+    record {
+      means =
+          meaning-from (t .objects) (t .left - 1) (graph-of (take (t .used + 1) (set (t .cells .now) (t .used) y))) (changed (graph-of (used-of t)) (c .args .object) (c .args .name .now) (c .args .value))
+          (λ p q. graph-pushed (t .cells .now) (t .used) (c .args .object) (c .args .name .now) (c .args .value) p q y (is .owner) (is .called) (is .value) free);
+      spares = record { lender = refl; size = length-set (t .cells .now) (t .used) y; past = drop-set-lt 4096 (t .cells .now) (t .used) y few };
+    }
