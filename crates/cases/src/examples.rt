@@ -7,7 +7,10 @@ use contract::depth::DepthContract;
 use contract::expressions::Expression;
 use contract::expressions::methods::ExpressionContract;
 use contract::path_text::permits_text;
+use contract::permits::may_read;
+use contract::permits::may_write;
 use expression::texts::Text;
+use lexer::name::Name;
 use lexer::refusal::Reason;
 use std::test::*;
 
@@ -74,4 +77,39 @@ fn a_refused_reading_changes_nothing() -> Result<(), Fail> {
     }
     check_eq(permits(&contract, b"a")?, (true, true))?;
     check_eq(permits(&contract, b"b")?, (false, false))
+}
+
+#[test]
+fn both_nest() -> Result<(), Fail> {
+    let contract = Both {
+        left: Both {
+            left: by_texts(b"a.b.c", b"a.b*")?,
+            right: Depth { read: 2, write: 3 },
+        },
+        right: by_texts(b"?*", b"a.b.b|a.b.b.b")?,
+    };
+    check_eq(permits(&contract, b"")?, (true, false))?;
+    check_eq(permits(&contract, b"a.b")?, (true, false))?;
+    check_eq(permits(&contract, b"a.b.c")?, (false, false))?;
+    check_eq(permits(&contract, b"a.b.b")?, (false, true))?;
+    check_eq(permits(&contract, b"a.b.b.b")?, (false, false))
+}
+
+fn name(bytes: &[u8]) -> Result<Name, Fail> {
+    match Name::new(bytes) {
+        Some(name) => Ok(name),
+        None => Err(Fail::new("the bytes are no name")),
+    }
+}
+
+#[test]
+fn paths_of_names_are_permitted() -> Result<(), Fail> {
+    let contract = by_texts(b"depot.?", b"depot.free")?;
+    let path = [name(b"depot")?, name(b"free")?];
+    check_eq(may_read(&contract, &path), true)?;
+    check_eq(may_write(&contract, &path), true)?;
+    check_eq(may_read(&contract, &path[0..1]), true)?;
+    check_eq(may_write(&contract, &path[0..1]), false)?;
+    check_eq(may_read(&contract, &path[1..2]), false)?;
+    check_eq(may_write(&contract, &path[1..2]), false)
 }
