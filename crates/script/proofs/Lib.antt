@@ -1,0 +1,10 @@
+pub mod Steps
+pub mod Moves
+pub mod Advances
+pub mod Complete
+pub mod Parts
+pub mod Sound
+pub mod Beginnings
+pub mod Limits
+pub mod Walks
+pub mod Derivations

@@ -1,0 +1,4 @@
+pub mod Trees
+pub mod Words
+pub mod Reading
+pub mod Derivations

@@ -1,0 +1,2 @@
+//! Scripts: their tree, and how they are read.
+pub mod theorems;
