@@ -1,21 +1,20 @@
 -- Parts of the grammar that read another part again and again, with a sign between: what a turn of their loop keeps, and
 -- what each way out gives.
 use Rattle.std.proofs.Common.{◌≡◌, ℕ, ◌+◌, ◌≤◌, true, false, List, [], ◌∷◌, ◌++◌, length, Some, None, Ok, Err, sym, refl, ap, ◌∙◌, append_assoc, append-nil, arith}
-use Rattle.lexer.specs.Readers.{text_of, place_of, language_of, Accepted, next_of, tokens_from}
-use Rattle.lexer.specs.Tokens.{Lexeme, sign, is_the_sign}
+use Rattle.lexer.specs.Readers.{text_of, place_of, language_of}
+use Rattle.lexer.specs.Tokens.{Lexeme, sign}
 use Rattle.lexer.specs.declared.reader.Reader.{Reader}
 use Rattle.lexer.specs.declared.refusal.Refusal.{Refusal}
 use Rattle.std.proofs.lemmas.Bool.{and_from, not_from_false, not-true}
 use Rattle.expression.specs.Expressions.{Letter, Expr, alternative, sequence, star}
-use Rattle.expression.specs.Parsing.{Part, base_part, item_part, sequence_part, alternative_part, Made, Parsed, wanting_at}
+use Rattle.expression.specs.Parsing.{tokens_from, next_of, is_the_sign, Accepted, Part, base_part, item_part, sequence_part, alternative_part, Made, Parsed, wanting_at}
 use Rattle.expression.specs.Reading.{Level, wanting, holding, starred, state, advance, passes, weight, read}
 use Rattle.expression.specs.Tables.{operations_of, letters_of, postfix, leaves}
 use Rattle.expression.specs.declared.operation.Operation.{Operation}
 use Rattle.expression.specs.declared.operation.Operation.TheVariants.{Alternative, Sequence, Star}
 use Rattle.expression.specs.declared.tables.Letters.{Letters}
 use Rattle.expression.specs.declared.tables.Postfix.{Postfix}
-use Rattle.lexer.proofs.Moves.{moved_tokens, moved_next}
-use Rattle.expression.proofs.Advances.{settled, joins_up, unites}
+use Rattle.expression.proofs.Advances.{moved_tokens, moved_next, settled, joins_up, unites}
 use Rattle.expression.proofs.Operands.{sign_passed}
 
 -- a part that reads `sub` again and again, with a sign between

@@ -1,7 +1,7 @@
 -- What a base of the grammar gives: a letter, or a bracket.
 use Rattle.std.proofs.Common.{◌≡◌, ℕ, suc, ◌+◌, ◌<◌, ◌≤◌, Bool, true, false, cond, eqb, leb, List, [], ◌∷◌, ◌++◌, length, Some, None, Ok, Err, sym, refl, ap, ◌∙◌, subst, append-nil, add-zero, add-one, arith}
-use Rattle.lexer.specs.Readers.{text_of, place_of, language_of, Moved, Accepted, next_of, next_place, past_next, tokens_from}
-use Rattle.lexer.specs.Tokens.{Lexeme, name, number, sign, equals, end, bad, lex, Tokens, token, then, lexed_of, lexeme_of, is_the_sign, reason_at}
+use Rattle.lexer.specs.Readers.{text_of, place_of, language_of, Moved}
+use Rattle.lexer.specs.Tokens.{Lexeme, name, number, sign, equals, end, bad, lex, Tokens, token, then, lexed_of, lexeme_of}
 use Rattle.lexer.specs.declared.token.Placed.{Placed}
 use Rattle.lexer.specs.declared.token.Token.{Token}
 use Rattle.lexer.specs.declared.token.Token.TheVariants.{Name, Number, Sign, Equals, End, Bad}
@@ -9,16 +9,24 @@ use Rattle.lexer.specs.declared.reader.Reader.{Reader}
 use Rattle.lexer.specs.declared.refusal.Reason.TheVariants.{Deep, Many}
 use Rattle.lexer.specs.declared.refusal.Refusal.{Refusal}
 use Rattle.lexer.proofs.Rows.{Takes, found}
-use Rattle.lexer.proofs.Moves.{moved_tokens, moved_next, moved_place, sign_is}
 use Rattle.std.proofs.lemmas.Bool.{eqb-true, le-leb, lt-leb, ne_eqb, and_parts, not-true}
 use Rattle.expression.specs.Expressions.{Letter, any, named, empty, letter}
-use Rattle.expression.specs.Parsing.{letter_at, base_part, alternative_part, Made, Parsed}
+use Rattle.expression.specs.Parsing.{tokens_from, next_of, next_place, past_next, is_the_sign, letter_at, reason_at, Accepted, base_part, alternative_part, Made, Parsed}
 use Rattle.expression.specs.Reading.{Level, blank, opened, wanting, holding, starred, State, state, advance, opens, passes, weight, read, refused}
 use Rattle.expression.specs.Tables.{operations_of, letters_of, postfix, leaves}
 use Rattle.expression.specs.declared.operation.Operation.TheVariants as operation
 use Rattle.expression.specs.declared.tables.Letters.{Letters}
 use Rattle.expression.specs.declared.tables.Postfix.{Postfix}
-use Rattle.expression.proofs.Advances.{passed, limited, refuses, entered, stuck_starred, stuck_wanting, no_end_wanting}
+use Rattle.expression.proofs.Advances.{passed, limited, refuses, moved_tokens, moved_next, moved_place, entered, stuck_starred, stuck_wanting, no_end_wanting}
+
+-- a token that is the sign
+pub sign_is : (b : ℕ) (t : Lexeme) → is_the_sign b t ≡ true → t ≡ sign b
+sign_is b (name s) h = let z : ◌≡◌ {A = ℕ} 0 1 = cc in absurd (omega arith)
+sign_is b (number n) h = let z : ◌≡◌ {A = ℕ} 0 1 = cc in absurd (omega arith)
+sign_is b (sign c) h = ap sign (eqb-true c b h)
+sign_is b equals h = let z : ◌≡◌ {A = ℕ} 0 1 = cc in absurd (omega arith)
+sign_is b end h = let z : ◌≡◌ {A = ℕ} 0 1 = cc in absurd (omega arith)
+sign_is b bad h = let z : ◌≡◌ {A = ℕ} 0 1 = cc in absurd (omega arith)
 
 -- a sign that counts nothing is passed
 pub sign_passed : (b : ℕ) {r q : Reader} (n : ℕ) (s s2 : State) → is_the_sign b (next_of r) ≡ true → advance (sign b) s ≡ Some s2 → passes (sign b) (length s.outer) n ≡ None → weight (sign b) ≡ 0 → Moved r q (past_next r) → read n s (tokens_from r) ≡ read n s2 (tokens_from q)

@@ -1,7 +1,7 @@
 -- A whole text: what `read_text` gives, from what the parser's functions and the token after them say.
 use Rattle.std.proofs.Common.{◌≡◌, ℕ, List, [], ◌++◌, None, Ok, Err, sym, refl, ap, ◌∙◌, arith}
-use Rattle.lexer.specs.Readers.{text_of, place_of, language_of, next_of, next_place, past_next, tokens_from}
-use Rattle.lexer.specs.Tokens.{Lexeme, name, number, sign, equals, end, bad, lex, lexed_of, lexeme_of, Tokens, then, tokens, reason_at}
+use Rattle.lexer.specs.Readers.{text_of, place_of, language_of}
+use Rattle.lexer.specs.Tokens.{Lexeme, name, number, sign, equals, end, bad, lex, lexed_of, lexeme_of, Tokens, then, tokens}
 use Rattle.lexer.specs.declared.reader.Reader.{Reader}
 use Rattle.lexer.specs.declared.refusal.Refusal.{Refusal}
 use Rattle.lexer.specs.declared.token.Language.TheVariants.{PathExpression}
@@ -10,7 +10,7 @@ use Rattle.lexer.specs.declared.token.Token.{Token}
 use Rattle.lexer.specs.declared.token.Token.TheVariants.{Name, Number, Sign, Equals, End, Bad}
 use Rattle.std.proofs.lemmas.Bool.{and_parts, not-true}
 use Rattle.expression.specs.Expressions.{Expr}
-use Rattle.expression.specs.Parsing.{Made, Parsed, alternative_part, Whole}
+use Rattle.expression.specs.Parsing.{tokens_from, next_of, next_place, past_next, reason_at, Made, Parsed, alternative_part, Whole}
 use Rattle.expression.specs.Reading.{blank, starred, start, state, advance, read, refused, read_text}
 use Rattle.expression.specs.Tables.{operations_of, postfix}
 use Rattle.expression.specs.declared.tables.Letters.{Letters}

@@ -1,15 +1,41 @@
 -- What the parser's functions promise. Each reads one part of the grammar from where the reader stands, and writes the
 -- operations and the letters of its tree.
-use Rattle.std.specs.Prelude.{◌≡◌, ℕ, ◌+◌, ◌-◌, ◌<◌, ◌≤◌, Bool, true, cond, not, ◌&&◌, List, ◌++◌, length, Some, None, Ok, Err, Option, Result, ◌==◌}
-use Rattle.lexer.specs.Readers.{text_of, place_of, language_of, next_of, tokens_from}
-use Rattle.lexer.specs.Tokens.{Lexeme, name, number, sign, equals, end, bad, is_the_sign}
+use Rattle.std.specs.Prelude.{◌≡◌, ℕ, ◌+◌, ◌-◌, ◌<◌, ◌≤◌, Bool, true, false, cond, not, ◌&&◌, List, ◌++◌, length, Some, None, Ok, Err, Option, Result, ◌==◌}
+use Rattle.lexer.specs.Readers.{text_of, place_of, language_of, Moved}
+use Rattle.lexer.specs.Tokens.{Lexeme, name, number, sign, equals, end, bad, lex, Tokens, tokens}
 use Rattle.lexer.specs.declared.reader.Reader.{Reader}
+use Rattle.lexer.specs.declared.refusal.Reason.{Reason}
+use Rattle.lexer.specs.declared.refusal.Reason.TheVariants.{Token, Grammar}
 use Rattle.lexer.specs.declared.refusal.Refusal.{Refusal}
 use Rattle.expression.specs.Expressions.{Letter, any, named, Expr}
 use Rattle.expression.specs.Reading.{Level, blank, Here, wanting, holding, starred, state, read, Outcome, accepted, refused, read_text}
 use Rattle.expression.specs.Tables.{operations_of, letters_of, postfix, leaves}
 use Rattle.expression.specs.declared.tables.Letters.{Letters}
 use Rattle.expression.specs.declared.tables.Postfix.{Postfix}
+
+-- the tokens that a reader has still to pass, the first of them, and the bytes
+abbrev pub tokens_from : Reader → Tokens
+tokens_from r = tokens (language_of r) (text_of r) (place_of r)
+
+abbrev pub next_of : Reader → Lexeme
+next_of r = (lex (language_of r) (text_of r) (place_of r)).lexeme
+
+abbrev pub next_place : Reader → ℕ
+next_place r = (lex (language_of r) (text_of r) (place_of r)).start
+
+abbrev pub past_next : Reader → ℕ
+past_next r = (lex (language_of r) (text_of r) (place_of r)).stop
+
+abbrev pub unread : Reader → ℕ
+unread r = length (text_of r) - place_of r
+
+abbrev pub is_the_sign : ℕ → Lexeme → Bool
+is_the_sign c (name s) = false
+is_the_sign c (number n) = false
+is_the_sign c (sign b) = b == c
+is_the_sign c equals = false
+is_the_sign c end = false
+is_the_sign c bad = false
 
 -- the letter that a token is
 abbrev pub letter_at : Lexeme → Option Letter
@@ -19,6 +45,20 @@ letter_at (sign b) = cond (b == 63) (Some any) None
 letter_at equals = None
 letter_at end = None
 letter_at bad = None
+
+-- the reason that a token is refused for that cannot come where it stands
+abbrev pub reason_at : Lexeme → Reason
+reason_at (name s) = Grammar
+reason_at (number n) = Grammar
+reason_at (sign b) = Grammar
+reason_at equals = Grammar
+reason_at end = Grammar
+reason_at bad = Token
+
+-- a reader passes the next token, if it is this sign
+abbrev pub Accepted : ℕ → Reader → Reader → Bool → Type 0
+Accepted c r s true = (is_the_sign c (next_of r) ≡ true) × Moved r s (past_next r) × (place_of r < place_of s)
+Accepted c r s false = (is_the_sign c (next_of r) ≡ false) × Moved r s (place_of r)
 
 -- a part of the grammar: the levels at which it is read, where the reading stands after its tree, and the tokens that
 -- cannot come next, since the part would take them in

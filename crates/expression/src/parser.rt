@@ -1,9 +1,8 @@
 //! Path expressions, read from a text into the tables.
 ghost use Rattle.std.specs.Prelude.{◌≡◌, ℕ, ◌≤◌, length, Some};
-ghost use Rattle.lexer.specs.Readers.{next_of};
-ghost use Rattle.expression.specs.Parsing.{Parsed, TextRead, Fits, letter_at, base_part, item_part, sequence_part, alternative_part};
+ghost use Rattle.expression.specs.Parsing.{Accepted, Parsed, TextRead, Fits, reason_at, letter_at, next_of, base_part, item_part, sequence_part, alternative_part};
 ghost use Rattle.expression.specs.Tables.{letter_of};
-ghost use Rattle.lexer.specs.Tokens.{sign};
+ghost use Rattle.lexer.specs.Tokens.{lexeme_of, sign};
 
 use crate::letter::Letter;
 use crate::operation::Operation;
@@ -12,6 +11,38 @@ use lexer::name::Name;
 use lexer::reader::Reader;
 use lexer::refusal::{Reason, Refusal};
 use lexer::token::{Language, Placed, Token};
+
+/// The refusal of a token that cannot come where it stands.
+fn misplaced(next: Placed) -> Refusal
+    ensures reason { result.reason ≡ reason_at (lexeme_of next.entry.token) }
+    ensures place { result.place ≡ next.entry.start }
+{
+    let reason = match next.token {
+        Token::Bad => Reason::Token,
+        _ => Reason::Grammar,
+    };
+    Refusal {
+        reason,
+        place: next.start,
+    }
+}
+
+/// Passes the next token if it is this sign.
+fn accept(reader: &mut Reader, sign: u8) -> bool
+    ensures { Accepted sign reader.old reader.new result }
+{
+    let next = reader.peek();
+    match next.token {
+        Token::Sign(b) => {
+            if b != sign {
+                return false;
+            }
+            let _ = reader.take();
+            true
+        }
+        _ => false,
+    }
+}
 
 /// Passes the next token, which is this letter, and writes it down, unless there are too many.
 fn read_letter(
@@ -55,15 +86,15 @@ fn bracket(
             place: open.start,
         });
     }
-    if reader.accept(b')') {
+    if accept(reader, b')') {
         out.push(Operation::Empty);
         return Ok(());
     }
     alternative(reader, out, letters, depth + 1)?;
-    if reader.accept(b')') {
+    if accept(reader, b')') {
         Ok(())
     } else {
-        Err(reader.peek().misplaced())
+        Err(misplaced(reader.peek()))
     }
 }
 
@@ -92,9 +123,9 @@ fn base(
             if b == b'(' {
                 return bracket(reader, out, letters, depth);
             }
-            Err(next.misplaced())
+            Err(misplaced(next))
         }
-        _ => Err(next.misplaced()),
+        _ => Err(misplaced(next)),
     }
 }
 
@@ -111,7 +142,7 @@ fn item(
     ensures { Parsed item_part depth reader.old reader.new out.old out.new letters.old letters.new result }
 {
     base(reader, out, letters, depth)?;
-    if reader.accept(b'*') {
+    if accept(reader, b'*') {
         out.push(Operation::Star);
     }
     Ok(())
@@ -130,7 +161,7 @@ fn sequence(
     ensures { Parsed sequence_part depth reader.old reader.new out.old out.new letters.old letters.new result }
 {
     item(reader, out, letters, depth)?;
-    while reader.accept(b'.') {
+    while accept(reader, b'.') {
         item(reader, out, letters, depth)?;
         out.push(Operation::Sequence);
     }
@@ -150,7 +181,7 @@ fn alternative(
     ensures { Parsed alternative_part depth reader.old reader.new out.old out.new letters.old letters.new result }
 {
     sequence(reader, out, letters, depth)?;
-    while reader.accept(b'|') {
+    while accept(reader, b'|') {
         sequence(reader, out, letters, depth)?;
         out.push(Operation::Alternative);
     }
@@ -168,6 +199,6 @@ pub(crate) fn read_text(text: &[u8], letters: &mut Letters) -> Result<Postfix, R
     let next = reader.peek();
     match next.token {
         Token::End => Ok(out),
-        _ => Err(next.misplaced()),
+        _ => Err(misplaced(next)),
     }
 }

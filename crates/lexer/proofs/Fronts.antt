@@ -3,20 +3,12 @@ use Rattle.std.proofs.Common.{◌≡◌, ℕ, zero, suc, ◌+◌, ◌-◌, ◌<�
 use Rattle.std.specs.List.{prefix_len}
 use Rattle.std.proofs.lemmas.List.{drop_all, drop_more, get_or-drop}
 use Rattle.std.proofs.lemmas.List.Sums.{prefix_len-drop_yes}
-use Rattle.std.proofs.lemmas.Bool.{ne_eqb, le-leb, lt-leb, leb-true, and_left, and_right, and_from, and_parts, cases_eq}
+use Rattle.std.proofs.lemmas.Bool.{ne_eqb, le-leb, lt-leb, and_left, and_right, and_from, and_parts, cases_eq}
 use Rattle.lexer.specs.Classes.{class_of, classed, between}
 use Rattle.lexer.specs.Names.{plain, lawful}
 use Rattle.lexer.specs.Tokens.{lexed, name, number, sign, equals, end, bad, decimal, lex, past_blanks, front, by_class, named, numbered, signed, starts, numbers, part, Lies}
 use Rattle.lexer.specs.declared.token.Placed.{Placed}
 use Rattle.lexer.specs.declared.token.Language.{Language}
-
--- a number that passes a test against a bound is at most that
-pub within_bound : (n most value : ℕ) → Some value ≡ cond (leb n most) (Some n) None → value ≤ most
-within_bound n most value = go (leb n most) refl
-  where
-    go : (b : Bool) → leb n most ≡ b → Some value ≡ cond b (Some n) None → value ≤ most
-    go true e told = let same : value ≡ n = cc in omega (arith, leb-true n most e)
-    go false e told = let z : ◌≡◌ {A = ℕ} 0 1 = cc in absurd (omega arith)
 
 -- the token that begins at `start`, the first place from `at` on with no blank
 module _ (l : Language) (text : List ℕ) (at start : ℕ) (is : start ≡ past_blanks text at) where

@@ -109,10 +109,10 @@ lexed_of p = lexed (lexeme_of p.token) p.start p.stop
 abbrev pub part : List ℕ → ℕ → ℕ → List ℕ
 part text start stop = slice_range text start stop
 
--- a token takes a byte at least, a name is lawful, a number is at most 2,147,483,647, and both hold their part of the text
+-- a token takes a byte at least, a name is lawful, and a name and a number hold their part of the text
 abbrev pub Spans : Token → List ℕ → ℕ → ℕ → Type 0
 Spans (Name s) text start stop = (start < stop) × (s.now ≡ part text start stop) × (lawful s.now ≡ true)
-Spans (Number s n) text start stop = (start < stop) × (s.now ≡ part text start stop) × (n ≤ 2147483647)
+Spans (Number s n) text start stop = (start < stop) × (s.now ≡ part text start stop)
 Spans (Sign b) text start stop = start < stop
 Spans Equals text start stop = start < stop
 Spans End text start stop = Unit {0}

@@ -1,7 +1,7 @@
 use Rattle.std.proofs.Common.{refl, ap, ◌∙◌}
 use Rattle.std.proofs.lemmas.Result.{err_from_is_err_and}
-use Rattle.lexer.specs.Tokens.{reason_at}
-use Rattle.lexer.proofs.Moves.{taken}
+use Rattle.expression.specs.Parsing.{reason_at}
+use Rattle.expression.proofs.Advances.{taken}
 use Rattle.expression.proofs.Operands.{sign_refused, other_refused, too_deep, nothing_read, inner_refused, closed_read, unclosed_refused}
 use Rattle.expression.proofs.Chains.{set_out, again, breaks, finishes, items, sequences, item_starred, item_plain}
 use Rattle.expression.proofs.parser.+alternative_base_bracket_item_sequence.Goals as goal

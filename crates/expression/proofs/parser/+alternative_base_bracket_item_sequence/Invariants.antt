@@ -1,5 +1,5 @@
 use Rattle.std.proofs.Common.{◌+◌, ◌*◌}
-use Rattle.lexer.specs.Readers.{unread}
+use Rattle.expression.specs.Parsing.{unread}
 use Rattle.expression.proofs.Chains.{Going, items, sequences}
 use Rattle.expression.proofs.parser.+alternative_base_bracket_item_sequence.Given as goal
 

@@ -1,6 +1,6 @@
 use Rattle.std.proofs.Common.{sym, refl, ap}
 use Rattle.std.proofs.lemmas.Bool.{ltb-true, ltb-false}
-use Rattle.lexer.proofs.Moves.{taken}
+use Rattle.expression.proofs.Advances.{taken}
 use Rattle.expression.proofs.Operands.{letter_read, letter_refused}
 use Rattle.expression.proofs.parser.read_letter.Goals as goal
 

@@ -1,5 +1,5 @@
 use Rattle.std.proofs.Common.{sym, refl, ◌∙◌, arith}
-use Rattle.lexer.proofs.Fronts.{number_moves, number_fits, number_large, within_bound}
+use Rattle.lexer.proofs.Fronts.{number_moves, number_fits, number_large}
 use Rattle.lexer.proofs.reader.methods.number_at.Goals as goal
 
 pub returns-in-Some : goal.returns-in-Some
@@ -11,7 +11,7 @@ returns-in-Some c =
         after = omega arith;
         ordered = omega arith;
         within = c.run-end-stop.ensures.within;
-        spans = (moves, refl, within_bound _ _ _ c.in-Some.ensures);
+        spans = (moves, refl);
       };
     }
 
