@@ -1,4 +1,6 @@
 //! A list of at most as many entries as the places that a host lends.
+#![tactic(auto)]
+
 ghost use Rattle.std.specs.Prelude.{◌≤◌, length};
 
 mod methods;

@@ -19,8 +19,8 @@ pub trait Record {
 
 /// The place of the last record of a property, or none if there is no record of it.
 pub fn last_of<R: Record>(records: &[R], object: u16, name: &[u8]) -> Option<usize>
-    ensures place { result ≡ last_place (fits owner called object name.now) records.now }
-    ensures last { Found (fits owner called object name.now) records.now result }
+    ensures place { result ≡ last_place (fits R.owner R.called object name.now) records.now }
+    ensures last { Found (fits R.owner R.called object name.now) records.now result }
 {
     for i in (0..records.len()).rev() {
         let record = &records[i];

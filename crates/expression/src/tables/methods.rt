@@ -62,7 +62,7 @@ impl Letters {
     pub(crate) fn push(&mut self, letter: Letter) -> bool
         ensures said { result ≡ nat_lt self.old.used 62 }
         ensures letters { letters_of self.new ≡ (if result then letters_of self.old ++ (letter_of letter ∷ []) else letters_of self.old) }
-        ensures used { self.new.used ≡ cond result (self.old.used + 1) self.old.used }
+        ensures used { self.new.used ≡ (if result then self.old.used + 1 else self.old.used) }
     {
         let place = self.used;
         if place >= MAX_LETTERS {

@@ -8,12 +8,12 @@ use Rattle.expression.proofs.letter.Letter.fits.Goals as goal
 
 pub returns-in-Any : goal.returns-in-Any
 unfolding fits
-returns-in-Any c = c.is-lawful.ensures ∙ ap (λ l. fits (letter_of l) c.args.name.now) (sym c.in-Any.is)
+returns-in-Any c = c.is_lawful.ensures ∙ ap (λ l. fits (letter_of l) c.args.name.now) (sym c.in-Any.is)
 
 pub returns-in-Named : goal.returns-in-Named
 unfolding fits
 returns-in-Named c =
-    same_from_decides c.eq.result (bytes_eq c.as-bytes.result.now c.args.name.now)
-    (slice_eq-Decides Decides-eqb _ _ _ c.eq.ensures) (bytes_eq-Decides c.as-bytes.result.now c.args.name.now)
-    ∙ ap (λ xs. bytes_eq xs c.args.name.now) c.as-bytes.ensures
+    same_from_decides c.eq.result (bytes_eq c.as_bytes.result.now c.args.name.now)
+    (slice_eq-Decides Decides-eqb _ _ _ c.eq.ensures) (bytes_eq-Decides c.as_bytes.result.now c.args.name.now)
+    ∙ ap (λ xs. bytes_eq xs c.args.name.now) c.as_bytes.ensures
     ∙ ap (λ l. fits (letter_of l) c.args.name.now) (sym c.in-Named.is)

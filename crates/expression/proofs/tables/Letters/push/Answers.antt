@@ -8,7 +8,7 @@ pub returns : goal.returns
 returns c =
     let inside : c.args.self.now.used < length c.args.self.now.table = search rules in
     record {
-      said = sym (lt-ltb _ _ c.if-place-ge-MAX-LETTERS.false);
+      said = sym (lt-ltb _ _ c.if-place-ge-MAX_LETTERS.false);
       letters = ap (map letter_of) (take_more_set _ _ _ inside) ∙ map-append letter_of (take c.args.self.now.used c.args.self.now.table) (c.args.letter ∷ []);
       used = refl;
     }

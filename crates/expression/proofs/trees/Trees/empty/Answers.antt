@@ -6,15 +6,13 @@ use Rattle.expression.proofs.trees.Trees.empty.Goals as goal
 one : (c : goal.After-new) → operations_of c.push.new.self ≡ Empty ∷ []
 one c = c.push.ensures.operations ∙ ap (λ os. os ++ (Empty ∷ [])) c.new-one.ensures.operations
 
-pub invariant-of-result : goal.invariant-of-result
+pub invariant_of-result : goal.invariant_of-result
 unfolding formed
-invariant-of-result c = (
-  omega arith,
-  (
-    ap (λ os. formed os 0 0) (one c),
-    ((λ i. formed (one c i) (c.new.ensures.used i - 0) 0), tt),
-  ),
-)
+invariant_of-result c = record {
+  few = omega arith;
+  reads = ap (λ os. formed os 0 0) (one c);
+  writes = λ i. formed (one c i) (c.new.ensures.used i - 0) 0;
+}
 
 pub returns : goal.returns
 unfolding build

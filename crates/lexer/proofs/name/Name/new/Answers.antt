@@ -2,13 +2,16 @@ use Rattle.std.proofs.Common.{cond, length, Some, None, sym, ap, ◌∙◌, arit
 use Rattle.lexer.specs.Names.{lawful}
 use Rattle.lexer.proofs.name.Name.new.Goals as goal
 
-pub invariant-of-result : goal.invariant-of-result
-invariant-of-result c =
-    let copied = c.copy-from-slice.ensures.after in
-    (omega arith, (ap lawful (take_at _ _ (length c.args.bytes.now) (ap length copied) ∙ copied) ∙ sym c.if-not-is-lawful.ensures, tt))
+pub invariant_of-result : goal.invariant_of-result
+invariant_of-result c =
+    let copied = c.copy_from_slice.ensures.after in
+    record {
+      short = omega arith;
+      ok = ap lawful (take_at _ _ (length c.args.bytes.now) (ap length copied) ∙ copied) ∙ sym c.if-not-is_lawful.ensures;
+    }
 
 pub returns : goal.returns
 returns c =
-    let copied = c.copy-from-slice.ensures.after in
+    let copied = c.copy_from_slice.ensures.after in
     ap Some (take_at _ _ (length c.args.bytes.now) (ap length copied) ∙ copied)
-    ∙ ap (λ b. cond b (Some c.args.bytes.now) None) c.if-not-is-lawful.ensures
+    ∙ ap (λ b. cond b (Some c.args.bytes.now) None) c.if-not-is_lawful.ensures

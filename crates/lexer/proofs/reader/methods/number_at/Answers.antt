@@ -4,19 +4,19 @@ use Rattle.lexer.proofs.reader.methods.number_at.Goals as goal
 
 pub returns-in-Some : goal.returns-in-Some
 returns-in-Some c =
-    let moves = number_moves _ _ _ c.requires.within c.requires.digit c.run-end-stop.ensures.ends in
+    let moves = number_moves _ _ _ c.requires.within c.requires.digit c.run_end-stop.ensures.ends in
     record {
-      is = sym (number_fits _ _ _ c.requires.within c.requires.digit c.run-end-stop.ensures.ends _ c.in-Some.ensures);
+      is = sym (number_fits _ _ _ c.requires.within c.requires.digit c.run_end-stop.ensures.ends _ c.in-Some.ensures);
       lies = record {
         after = omega arith;
         ordered = omega arith;
-        within = c.run-end-stop.ensures.within;
+        within = c.run_end-stop.ensures.within;
         spans = (moves, refl);
       };
     }
 
 pub returns-in-None : goal.returns-in-None
 returns-in-None c = record {
-  is = c.no-token.ensures.is ∙ sym (number_large _ _ _ c.requires.within c.requires.digit c.run-end-stop.ensures.ends c.in-None.ensures);
-  lies = c.no-token.ensures.lies _ (omega arith);
+  is = c.no_token.ensures.is ∙ sym (number_large _ _ _ c.requires.within c.requires.digit c.run_end-stop.ensures.ends c.in-None.ensures);
+  lies = c.no_token.ensures.lies _ (omega arith);
 }
