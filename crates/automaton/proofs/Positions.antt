@@ -1,6 +1,6 @@
 -- What the positions of a path expression tell: which ones there are, and after which ones a path may end.
 use Rattle.std.proofs.Common.{◌≡◌, ℕ, ◌+◌, true, ◌&&◌, ltb, leb, is_some, Some, None, Option, refl, ◌∙◌, arith}
-use mathlib.Core.Bool.{and_true}
+use mathlib.Core.Bool.{and-true}
 use Rattle.std.proofs.lemmas.Bool.{false≢true}
 use Rattle.std.proofs.lemmas.Bool.Decides.{nat_tests}
 use Rattle.expression.specs.Expressions.{Expr, empty, letter, alternative, sequence, star}
@@ -56,4 +56,4 @@ rest_ends (star a) i x = grind (arith, rest_ends a i x)
 -- the empty path is told by the last positions, and as a beginning by all positions
 pub positions_tell_the_empty_path : PositionsTellTheEmptyPath
 unfolding remaining
-positions_tell_the_empty_path e i marked start = record { whole = simp rest_ends; begun = simp (rest_some, and_true) }
+positions_tell_the_empty_path e i marked start = record { whole = simp rest_ends; begun = simp (rest_some, and-true) }

@@ -20,22 +20,22 @@ pub enum Word {
 pub fn classify(bytes: &[u8]) -> Word
     ensures { as_word result ≡ word_of bytes.now }
 {
-    if bytes == b"if" {
+    if bytes == b"if".as_slice() {
         return Word::If;
     }
-    if bytes == b"else" {
+    if bytes == b"else".as_slice() {
         return Word::Else;
     }
-    if bytes == b"while" {
+    if bytes == b"while".as_slice() {
         return Word::While;
     }
-    if bytes == b"say" {
+    if bytes == b"say".as_slice() {
         return Word::Say;
     }
-    if bytes == b"cut" {
+    if bytes == b"cut".as_slice() {
         return Word::Cut;
     }
-    if bytes == b"has" {
+    if bytes == b"has".as_slice() {
         return Word::Has;
     }
     Word::Name

@@ -6,8 +6,8 @@ use Rattle.overlay.specs.declared.entry.Entry.{Entry}
 use Rattle.overlay.proofs.Steps.{over_changed, over_added, apart_with}
 use Rattle.overlay.proofs.overlay.Overlay.set.Goals as goal
 
-pub invariant-of-self-in-Some : goal.invariant-of-self-in-Some
-invariant-of-self-in-Some g c =
+pub invariant_of-self-in-Some : goal.invariant_of-self-in-Some
+invariant_of-self-in-Some g c =
     let t = c.args.self.now in
     let i = c.in-Some.i in
     let d : Entry = record { object = 0; label = record { bytes = []; len = 0 }; value = c.args.value } in
@@ -16,19 +16,23 @@ invariant-of-self-in-Some g c =
     let room = t.room in
     let full = t.changes.full in
     let within = t.changes.within in
-    let apart = apart_with t.changes.entries t.changes.used c.args.object c.args.name.now c.args.value i d (omega arith) t.apart found.within (sym found.place) in
-    (omega (arith, is.used), (subst (λ u. EntriesApart c.change.new.self.entries u) (sym is.used) (subst (λ es. EntriesApart es t.changes.used) (sym (is.entries d)) apart), tt))
+    let apart = apart_with t.changes.entries t.changes.used c.args.object c.args.name.now c.args.value i d (omega arith) t.apart found.within (sym found.place) in record {
+      room = omega (arith, is.used);
+      apart = subst (λ u. EntriesApart c.change.new.self.entries u) (sym is.used) (subst (λ es. EntriesApart es t.changes.used) (sym (is.entries d)) apart);
+    }
 
-pub invariant-of-self-in-None : goal.invariant-of-self-in-None
-invariant-of-self-in-None g c =
+pub invariant_of-self-in-None : goal.invariant_of-self-in-None
+invariant_of-self-in-None g c =
     let t = c.args.self.now in
     let y = c.new.result in
     let is = c.add.ensures in
     let room = t.room in
     let full = t.changes.full in
     let some_left = c.requires.left in
-    let apart = apart_past owner called t.changes.entries t.changes.used c.args.object c.args.name.now y c.new.ensures.owner c.new.ensures.called t.apart (omega arith) (sym c.in-None.ensures.place) in
-    (omega (arith, is.used), (subst (λ u. EntriesApart c.add.new.self.entries u) (sym is.used) (subst (λ es. EntriesApart es (t.changes.used + 1)) (sym is.entries) apart), tt))
+    let apart = apart_past owner called t.changes.entries t.changes.used c.args.object c.args.name.now y c.new.ensures.owner c.new.ensures.called t.apart (omega arith) (sym c.in-None.ensures.place) in record {
+      room = omega (arith, is.used);
+      apart = subst (λ u. EntriesApart c.add.new.self.entries u) (sym is.used) (subst (λ es. EntriesApart es (t.changes.used + 1)) (sym is.entries) apart);
+    }
 
 pub returns-in-Some : goal.returns-in-Some
 returns-in-Some g c =

@@ -13,8 +13,8 @@ use Rattle.table.proofs.node_table.NodeTable.set.Goals as goal
 abbrev none_there : Cell
 none_there = record { object = 0; label = record { bytes = []; len = 0 }; value = Nothing }
 
-pub invariant-of-self-in-Some : goal.invariant-of-self-in-Some
-invariant-of-self-in-Some c =
+pub invariant_of-self-in-Some : goal.invariant_of-self-in-Some
+invariant_of-self-in-Some c =
     let t = c.args.self.now in
     let cells = t.cells.now in
     let i = c.in-Some.i in
@@ -23,28 +23,17 @@ invariant-of-self-in-Some c =
     let room = t.room in
     let within : i < length cells = omega (arith, found.within) in
     let last : z ≡ get_or cells (t.used - 1) z = get_or_default cells (t.used - 1) none_there z (omega arith) in
-    let some : t.used - 1 < t.used = omega (arith, found.within) in (
-      simp length-set (omega arith),
-      (
-        t.some,
-        (
-          t.few,
-          (
-            apart_freed cells t.used i z found.within (omega arith) last t.apart,
-            (
-              each_set holds cells t.used (t.used - 1) i z within t.holding (t.holding (t.used - 1) none_there some) (λ k h _. omega arith),
-              (
-                each_set (inside t.objects) cells t.used (t.used - 1) i z within t.closed (t.closed (t.used - 1) none_there some) (λ k h _. omega arith),
-                tt,
-              ),
-            ),
-          ),
-        ),
-      ),
-    )
+    let some : t.used - 1 < t.used = omega (arith, found.within) in record {
+      room = simp length-set (omega arith);
+      some = t.some;
+      few = t.few;
+      apart = apart_freed cells t.used i z found.within (omega arith) last t.apart;
+      holding = each_set holds cells t.used (t.used - 1) i z within t.holding (t.holding (t.used - 1) none_there some) (λ k h _. omega arith);
+      closed = each_set (inside t.objects) cells t.used (t.used - 1) i z within t.closed (t.closed (t.used - 1) none_there some) (λ k h _. omega arith);
+    }
 
-pub invariant-of-self-in-Some-place : goal.invariant-of-self-in-Some-place
-invariant-of-self-in-Some-place c =
+pub invariant_of-self-in-Some-place : goal.invariant_of-self-in-Some-place
+invariant_of-self-in-Some-place c =
     let t = c.args.self.now in
     let cells = t.cells.now in
     let i = c.in-Some-place.i in
@@ -52,53 +41,31 @@ invariant-of-self-in-Some-place c =
     let is = c.new.ensures in
     let found = c.in-Some-place.ensures in
     let room = t.room in
-    let within : i < length cells = omega (arith, found.within) in (
-      simp length-set (omega arith),
-      (
-        t.some,
-        (
-          t.few,
-          (
-            apart_over owner called cells t.used c.args.object c.args.name.now y is.owner is.called t.apart i (omega arith) found.within (sym found.place),
-            (
-              each_set holds cells t.used t.used i y within t.holding (ap holds is.value ∙ holds_from c.args.value c.in-default.not-Nothing) (λ k h _. h),
-              (
-                each_set (inside t.objects) cells t.used t.used i y within t.closed (ap (inside t.objects) is.value ∙ c.requires.target) (λ k h _. h),
-                tt,
-              ),
-            ),
-          ),
-        ),
-      ),
-    )
+    let within : i < length cells = omega (arith, found.within) in record {
+      room = simp length-set (omega arith);
+      some = t.some;
+      few = t.few;
+      apart = apart_over owner called cells t.used c.args.object c.args.name.now y is.owner is.called t.apart i (omega arith) found.within (sym found.place);
+      holding = each_set holds cells t.used t.used i y within t.holding (ap holds is.value ∙ holds_from c.args.value c.in_default.not-Nothing) (λ k h _. h);
+      closed = each_set (inside t.objects) cells t.used t.used i y within t.closed (ap (inside t.objects) is.value ∙ c.requires.target) (λ k h _. h);
+    }
 
-pub invariant-of-self-in-None : goal.invariant-of-self-in-None
-invariant-of-self-in-None c =
+pub invariant_of-self-in-None : goal.invariant_of-self-in-None
+invariant_of-self-in-None c =
     let t = c.args.self.now in
     let cells = t.cells.now in
     let y = c.new-in-None.result in
     let is = c.new-in-None.ensures in
     let room = t.room in
     let some_left = c.requires.left in
-    let free : t.used < length cells = omega arith in (
-      simp length-set (omega arith),
-      (
-        t.some,
-        (
-          t.few,
-          (
-            apart_past owner called cells t.used c.args.object c.args.name.now y is.owner is.called t.apart free (sym c.in-None.ensures.place),
-            (
-              each_set holds cells t.used (t.used + 1) t.used y free t.holding (ap holds is.value ∙ holds_from c.args.value c.in-default.not-Nothing) (λ k h ne. omega arith),
-              (
-                each_set (inside t.objects) cells t.used (t.used + 1) t.used y free t.closed (ap (inside t.objects) is.value ∙ c.requires.target) (λ k h ne. omega arith),
-                tt,
-              ),
-            ),
-          ),
-        ),
-      ),
-    )
+    let free : t.used < length cells = omega arith in record {
+      room = simp length-set (omega arith);
+      some = t.some;
+      few = t.few;
+      apart = apart_past owner called cells t.used c.args.object c.args.name.now y is.owner is.called t.apart free (sym c.in-None.ensures.place);
+      holding = each_set holds cells t.used (t.used + 1) t.used y free t.holding (ap holds is.value ∙ holds_from c.args.value c.in_default.not-Nothing) (λ k h ne. omega arith);
+      closed = each_set (inside t.objects) cells t.used (t.used + 1) t.used y free t.closed (ap (inside t.objects) is.value ∙ c.requires.target) (λ k h ne. omega arith);
+    }
 
 pub returns-in-Some : goal.returns-in-Some
 returns-in-Some c =
@@ -117,13 +84,13 @@ returns-in-Some c =
       spares = record { lender = refl; size = length-set cells i z; past = drop-set-lt 4096 cells i z few };
     }
 
-pub returns-in-default-place : goal.returns-in-default-place
-returns-in-default-place c =
+pub returns-in_default-place : goal.returns-in_default-place
+returns-in_default-place c =
     let t = c.args.self.now in
     record {
       means =
           meaning_from t.objects (t.left - 1) (graph_of (used_of t)) (changed (graph_of (used_of t)) c.args.object c.args.name.now c.args.value)
-          (λ p q. graph_absent t.cells.now t.used c.args.object c.args.name.now c.args.value p q (sym c.in-default-place.ensures.place) c.in-Nothing.is);
+          (λ p q. graph_absent t.cells.now t.used c.args.object c.args.name.now c.args.value p q (sym c.in_default-place.ensures.place) c.in-Nothing.is);
       spares = record { lender = refl; size = refl; past = refl };
     }
 

@@ -8,8 +8,8 @@ use Rattle.automaton.proofs.pass.state.State.apply.Goals as goal
 pub letter-requires : goal.letter-requires
 letter-requires c = letter_counts c.args.operation (pass_of c.args.self.now) c.in-Letter.is c.requires.few
 
-pub overflow-add-self-in-Letter-2 : goal.overflow-add-self-in-Letter-2
-overflow-add-self-in-Letter-2 c =
+pub overflow_add-self-in-Letter-2 : goal.overflow_add-self-in-Letter-2
+overflow_add-self-in-Letter-2 c =
     let few : c.args.self.now.count < 62 = letter_counts c.args.operation (pass_of c.args.self.now) c.in-Letter.is c.requires.few in
     omega arith
 

@@ -25,7 +25,7 @@ returns-in-Some g c =
     let value : c.checked.result ≡ graph_over m xs o n =
     c.checked.ensures ∙ ap (λ k. checked k (get_or t.changes.entries i d).value) c.count-objects.ensures ∙ sym read in
     ap Ok value
-    ∙ ap (λ passed. if_passed passed (graph_over m xs o n)) c.in-ok-check-get.ensures
+    ∙ ap (λ passed. if_passed passed (graph_over m xs o n)) c.in_ok-check_get.ensures
     ∙ ap (λ k. if_passed (get_test k o n) (graph_over m xs o n)) c.count-objects.ensures
 
 pub returns-in-None : goal.returns-in-None

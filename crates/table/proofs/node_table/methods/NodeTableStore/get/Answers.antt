@@ -19,7 +19,7 @@ returns-in-Some c =
     let found = c.in-Some.ensures in
     let value : graph_of (used_of t) o n ≡ (get_or t.cells.now i d).value =
     latest_place value_of (fits owner called o n) (used_of t) i d Nothing (sym found.place) ∙ ap value_of (get_or-take t.used t.cells.now i d found.within) in
-    ap Ok (sym value) ∙ ap (λ passed. if_passed passed (graph_of (used_of t) o n)) c.in-ok-check-get.ensures
+    ap Ok (sym value) ∙ ap (λ passed. if_passed passed (graph_of (used_of t) o n)) c.in_ok-check_get.ensures
 
 pub returns-in-None : goal.returns-in-None
 returns-in-None c =
@@ -27,4 +27,4 @@ returns-in-None c =
     let o = c.args.object in
     let n = c.args.name.now in
     let value : graph_of (used_of t) o n ≡ Nothing = latest_none value_of (fits owner called o n) (used_of t) Nothing (sym c.in-None.ensures.place) in
-    ap Ok (sym value) ∙ ap (λ passed. if_passed passed (graph_of (used_of t) o n)) c.in-ok-check-get.ensures
+    ap Ok (sym value) ∙ ap (λ passed. if_passed passed (graph_of (used_of t) o n)) c.in_ok-check_get.ensures
