@@ -15,7 +15,7 @@ pub struct Permission {
 
 /// What is permitted of the empty path at a residue.
 fn permission_at<C: Contract>(contract: &C, at: C::Residue) -> Permission
-    ensures { result ≡ record { read = (terms contract.now at).reads []; write = (terms contract.now at).writes [] } }
+    ensures { result ≡ record { read = (C.terms contract.now at).reads []; write = (C.terms contract.now at).writes [] } }
 {
     Permission {
         read: contract.readable(at),
@@ -25,7 +25,7 @@ fn permission_at<C: Contract>(contract: &C, at: C::Residue) -> Permission
 
 /// What the contract permits of the path that the text spells, or the place of the first byte that makes it no path.
 pub fn permits_text<C: Contract>(contract: &C, text: &[u8]) -> Result<Permission, usize>
-    ensures { result ≡ permitted (terms contract.now (starts contract.now)) (read_path text.now) }
+    ensures { result ≡ permitted (C.terms contract.now (C.starts contract.now)) (read_path text.now) }
 {
     let mut at = contract.start();
     if text.is_empty() {

@@ -8,7 +8,7 @@ use lexer::name::Name;
 
 /// The residue after a path, from the start.
 pub fn residue_after<C: Contract>(contract: &C, path: &[Name]) -> C::Residue
-    ensures { terms contract.now result ≡ along (path_of path.now) (terms contract.now (starts contract.now)) }
+    ensures { C.terms contract.now result ≡ along (path_of path.now) (C.terms contract.now (C.starts contract.now)) }
 {
     let mut at = contract.start();
     for name in path {
@@ -19,14 +19,14 @@ pub fn residue_after<C: Contract>(contract: &C, path: &[Name]) -> C::Residue
 
 /// Whether the path may be read.
 pub fn may_read<C: Contract>(contract: &C, path: &[Name]) -> bool
-    ensures { result ≡ (terms contract.now (starts contract.now)).reads (path_of path.now) }
+    ensures { result ≡ (C.terms contract.now (C.starts contract.now)).reads (path_of path.now) }
 {
     contract.readable(residue_after(contract, path))
 }
 
 /// Whether the path may be written.
 pub fn may_write<C: Contract>(contract: &C, path: &[Name]) -> bool
-    ensures { result ≡ (terms contract.now (starts contract.now)).writes (path_of path.now) }
+    ensures { result ≡ (C.terms contract.now (C.starts contract.now)).writes (path_of path.now) }
 {
     contract.writable(residue_after(contract, path))
 }

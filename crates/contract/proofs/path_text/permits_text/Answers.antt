@@ -3,42 +3,42 @@ use Rattle.std.proofs.lemmas.Bool.{eqb-true, eqb-false}
 use Rattle.contract.specs.PathTexts.{spell, permitted, path}
 use Rattle.contract.proofs.Spelled.{from_start, empty_text, starts_name, wrong_start, ends_name, goes_on, wrong_byte, too_long, ends_text, ends_wrong, permitted_starting}
 use Rattle.contract.proofs.path_text.permits_text.Goals as goal
-use Rattle.contract.proofs.path_text.permits_text.Goals.{then-not-is-classed-2-via-then-not-is-classed-2, then-not-is-classed-2-via-else-not-is-classed-2+then-i-from-ge-MAX-NAME, then-i-from+else-not-is-classed, else-i-from+then-b-eq46, else-i-from+else-b-eq46+else-not-is-classed-2+else-i-from-ge-MAX-NAME}
+use Rattle.contract.proofs.path_text.permits_text.Goals.{then-not-is_classed-2-via-then-not-is_classed-2, then-not-is_classed-2-via-else-not-is_classed-2+then-i-from-ge-MAX_NAME, then-i-from+else-not-is_classed, else-i-from+then-b-eq46, else-i-from+else-b-eq46+else-not-is_classed-2+else-i-from-ge-MAX_NAME}
 
-pub returns-then-is-empty : goal.returns-then-is-empty
-returns-then-is-empty g c =
+pub returns-then-is_empty : goal.returns-then-is_empty
+returns-then-is_empty g c =
     let k = g.C.Contract in
     let own = c.args.contract.now in
-    let none : length c.args.text.now ≡ 0 = eqb-true _ _ (sym c.if-is-empty.ensures) in
-    ap Ok c.permission-at.ensures ∙ ap (λ r. permitted (k.terms own r) (path [])) c.start-at.ensures
+    let none : length c.args.text.now ≡ 0 = eqb-true _ _ (sym c.if-is_empty.ensures) in
+    ap Ok c.permission_at.ensures ∙ ap (λ r. permitted (k.terms own r) (path [])) c.start-at.ensures
     ∙ ap (permitted (k.terms own (k.starts own))) (sym (empty_text c.args.text.now none))
 
 pub loop-i-init : goal.loop-i-init
 loop-i-init g c =
     let k = g.C.Contract in
     let own = c.args.contract.now in
-    let some : 0 < length c.args.text.now = omega (arith, eqb-false _ _ (sym c.if-is-empty.ensures)) in (
+    let some : 0 < length c.args.text.now = omega (arith, eqb-false _ _ (sym c.if-is_empty.ensures)) in (
       omega arith,
       ap (λ r. permitted (k.terms own r) (spell 0 [] c.args.text.now)) c.start-at.ensures
           ∙ ap (permitted (k.terms own (k.starts own))) (from_start c.args.text.now some),
     )
 
-pub returns-then-not-is-classed : goal.returns-then-not-is-classed
-returns-then-not-is-classed g c =
+pub returns-then-not-is_classed : goal.returns-then-not-is_classed
+returns-then-not-is_classed g c =
     let k = g.C.Contract in
     let own = c.args.contract.now in
-    sym (ap (permitted (k.terms own c.loop-i.at)) (wrong_start c.args.text.now c.loop-i.from c.loop-i.i c.loop-i-test.true (sym c.if-i-from.true) (sym c.if-not-is-classed.ensures)))
+    sym (ap (permitted (k.terms own c.loop-i.at)) (wrong_start c.args.text.now c.loop-i.from c.loop-i.i c.loop-i-test.true (sym c.if-i-from.true) (sym c.if-not-is_classed.ensures)))
     ∙ c.loop-i.invariant.1
 
-pub returns-then-not-is-classed-2 : goal.returns-then-not-is-classed-2
-returns-then-not-is-classed-2 g c =
+pub returns-then-not-is_classed-2 : goal.returns-then-not-is_classed-2
+returns-then-not-is_classed-2 g c =
     let k = g.C.Contract in
     let own = c.args.contract.now in
     let low = c.loop-i.invariant.0 in
     let inside : c.loop-i.from < c.loop-i.i = omega (arith, c.if-i-from.false) in
-    sym (ap (permitted (k.terms own c.loop-i.at)) (elim c.then-not-is-classed-2.branch [
-      | then-not-is-classed-2-via-then-not-is-classed-2 w ↦ wrong_byte c.args.text.now c.loop-i.from c.loop-i.i c.loop-i-test.true inside c.if-b-eq46.false (sym c.is-classed-else-b-eq46.ensures ∙ w.if-not-is-classed-2.true)
-      | then-not-is-classed-2-via-else-not-is-classed-2+then-i-from-ge-MAX-NAME w ↦ too_long c.args.text.now c.loop-i.from c.loop-i.i c.loop-i-test.true inside c.if-b-eq46.false w.if-i-from-ge-MAX-NAME.true
+    sym (ap (permitted (k.terms own c.loop-i.at)) (elim c.then-not-is_classed-2.branch [
+      | then-not-is_classed-2-via-then-not-is_classed-2 w ↦ wrong_byte c.args.text.now c.loop-i.from c.loop-i.i c.loop-i-test.true inside c.if-b-eq46.false (sym c.is_classed-else-b-eq46.ensures ∙ w.if-not-is_classed-2.true)
+      | then-not-is_classed-2-via-else-not-is_classed-2+then-i-from-ge-MAX_NAME w ↦ too_long c.args.text.now c.loop-i.from c.loop-i.i c.loop-i-test.true inside c.if-b-eq46.false w.if-i-from-ge-MAX_NAME.true
     ]))
     ∙ c.loop-i.invariant.1
 
@@ -52,10 +52,10 @@ loop-i-preserved g c =
     let low = c.loop-i.invariant.0 in
     let goal = λ (at : g.row.C-Residue.Denot) (start : ℕ). permitted (k.terms own at) (spell (i + 1) (take (i + 1 - start) (drop start text)) (drop (i + 1) text)) in
     elim c.if-i-from.branch [
-      | then-i-from+else-not-is-classed w ↦ (
+      | then-i-from+else-not-is_classed w ↦ (
         omega (arith, w.from-is),
         (λ j. goal (w.at-is j) (w.from-is j))
-            ∙ sym (ap (permitted (k.terms own c.loop-i.at)) (starts_name text from i c.loop-i-test.true (sym w.if-i-from.true) (sym w.is-classed.ensures ∙ w.if-not-is-classed.false)))
+            ∙ sym (ap (permitted (k.terms own c.loop-i.at)) (starts_name text from i c.loop-i-test.true (sym w.if-i-from.true) (sym w.is_classed.ensures ∙ w.if-not-is_classed.false)))
             ∙ c.loop-i.invariant.1,
       )
       | else-i-from+then-b-eq46 w ↦ (
@@ -65,10 +65,10 @@ loop-i-preserved g c =
             ∙ sym (ap (permitted (k.terms own c.loop-i.at)) (ends_name text from i c.loop-i-test.true (omega (arith, w.if-i-from.false)) w.if-b-eq46.true) ∙ permitted_starting _ _ _)
             ∙ c.loop-i.invariant.1,
       )
-      | else-i-from+else-b-eq46+else-not-is-classed-2+else-i-from-ge-MAX-NAME w ↦ (
+      | else-i-from+else-b-eq46+else-not-is_classed-2+else-i-from-ge-MAX_NAME w ↦ (
         omega (arith, w.from-is),
         (λ j. goal (w.at-is j) (w.from-is j))
-            ∙ sym (ap (permitted (k.terms own c.loop-i.at)) (goes_on text from i c.loop-i-test.true (omega (arith, w.if-i-from.false)) w.if-b-eq46.false (sym w.is-classed-else-b-eq46.ensures ∙ w.if-not-is-classed-2.false) w.if-i-from-ge-MAX-NAME.false))
+            ∙ sym (ap (permitted (k.terms own c.loop-i.at)) (goes_on text from i c.loop-i-test.true (omega (arith, w.if-i-from.false)) w.if-b-eq46.false (sym w.is_classed-else-b-eq46.ensures ∙ w.if-not-is_classed-2.false) w.if-i-from-ge-MAX_NAME.false))
             ∙ c.loop-i.invariant.1,
       )
     ]
@@ -91,7 +91,7 @@ returns g c =
     let from = c.loop-i.from in
     let end : c.loop-i.i ≡ length c.args.text.now = omega arith in
     let inside : c.loop-i.from < c.loop-i.i = omega (arith, c.if-from-text.false) in
-    ap Ok c.permission-at-2.ensures ∙ ap (λ t. permitted t (path [])) c.step.ensures
+    ap Ok c.permission_at-2.ensures ∙ ap (λ t. permitted t (path [])) c.step.ensures
     ∙ sym (permitted_starting (k.terms own c.loop-i.at) (take (length text - from) (drop from text)) (path []))
     ∙ ap (λ n. permitted (k.terms own c.loop-i.at) (path (take (n - from) (drop from text) ∷ []))) (sym end)
     ∙ sym (ap (permitted (k.terms own c.loop-i.at)) (ends_text text from c.loop-i.i c.loop-i-test.false (omega arith) inside)) ∙ c.loop-i.invariant.1

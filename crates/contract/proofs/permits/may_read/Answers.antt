@@ -8,4 +8,4 @@ returns g c =
     let k = g.C.Contract in
     let own = c.args.contract.now in
     let path = path_of c.args.path.now in
-    c.readable.ensures ∙ ap (λ t. t.reads []) c.residue-after.ensures ∙ along_reads path [] (k.terms own (k.starts own)) ∙ ap (k.terms own (k.starts own)).reads (append-nil path)
+    c.readable.ensures ∙ ap (λ t. t.reads []) c.residue_after.ensures ∙ along_reads path [] (k.terms own (k.starts own)) ∙ ap (k.terms own (k.starts own)).reads (append-nil path)

@@ -8,4 +8,4 @@ returns g c =
     let k = g.C.Contract in
     let own = c.args.contract.now in
     let path = path_of c.args.path.now in
-    c.writable.ensures ∙ ap (λ t. t.writes []) c.residue-after.ensures ∙ along_writes path [] (k.terms own (k.starts own)) ∙ ap (k.terms own (k.starts own)).writes (append-nil path)
+    c.writable.ensures ∙ ap (λ t. t.writes []) c.residue_after.ensures ∙ along_writes path [] (k.terms own (k.starts own)) ∙ ap (k.terms own (k.starts own)).writes (append-nil path)

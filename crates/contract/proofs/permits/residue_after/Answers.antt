@@ -8,7 +8,7 @@ use Rattle.contract.proofs.permits.residue_after.Goals as goal
 pub loop-name-preserved : goal.loop-name-preserved
 loop-name-preserved g c =
     let k = g.C.Contract in
-    along_more (k.terms c.args.contract.now c.loop-name.at) (k.terms c.args.contract.now c.step-at.result) c.args.path.now c.loop-name.name-index c.name-item.result c.as-bytes.result.now c.loop-name-test.true c.name-item.is c.as-bytes.ensures c.step-at.ensures
+    along_more (k.terms c.args.contract.now c.loop-name.at) (k.terms c.args.contract.now c.step-at.result) c.args.path.now c.loop-name.name-index c.name-item.result c.as_bytes.result.now c.loop-name-test.true c.name-item.is c.as_bytes.ensures c.step-at.ensures
     ∙ c.loop-name.invariant
 
 pub returns : goal.returns

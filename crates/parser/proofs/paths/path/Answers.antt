@@ -5,14 +5,14 @@ use Rattle.bounded.specs.Filled.{filled}
 use Rattle.parser.proofs.Trails.{path_breaks, path_goes}
 use Rattle.parser.proofs.paths.path.Goals as goal
 
-pub returns-in-err-number : goal.returns-in-err-number
-returns-in-err-number c =
-    let x = err_from_is_err_and c.from-residual.result c.from-residual.ensures.1 in
-    rw (x.1, x.2) (path_breaks c.in-err-number.ensures)
+pub returns-in_err-number : goal.returns-in_err-number
+returns-in_err-number c =
+    let x = err_from_is_err_and c.from_residual.result c.from_residual.ensures.1 in
+    rw (x.1, x.2) (path_breaks c.in_err-number.ensures)
 
 pub steps-requires : goal.steps-requires
 steps-requires c =
-    let p = c.in-ok-number.ensures in
+    let p = c.in_ok-number.ensures in
     let on = p.passed.on in
     let fits = c.requires in
     let one = ap length c.emit.ensures.nodes ∙ length_push (filled c.args.out.now) _ in
@@ -20,4 +20,4 @@ steps-requires c =
     (omega arith, omega (arith, ap length p.passed.moved.text), omega arith)
 
 pub returns : goal.returns
-returns c = path_goes c.in-ok-number.ensures c.emit.ensures.nodes c.emit.ensures.kept c.steps.result c.steps.ensures
+returns c = path_goes c.in_ok-number.ensures c.emit.ensures.nodes c.emit.ensures.kept c.steps.result c.steps.ensures

@@ -8,13 +8,13 @@ loop-reader-init c = stepping_starts c.args.reader.now c.args.out.now
 
 pub loop-reader-preserved : goal.loop-reader-preserved
 loop-reader-preserved c =
-    let named = c.in-ok-called.ensures in
+    let named = c.in_ok-called.ensures in
     stepping_on c.loop-reader.invariant c.loop-reader-test.ensures _ _ named.0 named.1 c.emit.ensures.nodes c.emit.ensures.kept
 
-pub returns-in-err-called : goal.returns-in-err-called
-returns-in-err-called c =
-    let x = err_from_is_err_and c.from-residual.result c.from-residual.ensures.1 in
-    let none = c.in-err-called.ensures in
+pub returns-in_err-called : goal.returns-in_err-called
+returns-in_err-called c =
+    let x = err_from_is_err_and c.from_residual.result c.from_residual.ensures.1 in
+    let none = c.in_err-called.ensures in
     rw (x.1, x.2) (stepping_breaks c.loop-reader.invariant c.loop-reader-test.ensures none.0 none.1)
 
 pub returns : goal.returns
