@@ -10,7 +10,7 @@ use Rattle.expression.specs.Languages.{ends}
 use Rattle.expression.specs.Tables.{letter_of, leaves}
 use Rattle.expression.specs.declared.letter.Letter.{Letter as Held}
 use Rattle.automaton.specs.Bits.{bit, Marks}
-use Rattle.automaton.specs.Positions.{size, first, last, follow, rest, some, left_by, beginning, whole_path, reached}
+use Rattle.automaton.specs.Positions.{size, last, rest, some, left_by, beginning, whole_path, reached}
 use Rattle.automaton.specs.Residues.{reads_left, writes_left}
 use Rattle.automaton.specs.Tells.{letter_at, link_of}
 use Rattle.automaton.specs.declared.automaton.Automaton.{Automaton}

@@ -1,4 +1,6 @@
 //! The position automaton of a contract's two trees.
+#![tactic(auto)]
+
 pub mod automaton;
 mod bits;
 mod facts;

@@ -47,10 +47,10 @@ impl<'a, T: Drop> Bounded<'a, T> {
         ensures size { length (places_of self.new) ≡ length (places_of self.old) }
         ensures lender { self.new.places.ghost_name ≡ self.old.places.ghost_name }
     {
-        if at >= self.used {
-            return false;
+        if at < self.used {
+            self.places[at] = entry;
+            return true;
         }
-        self.places[at] = entry;
-        true
+        false
     }
 }

@@ -3,6 +3,8 @@
 //! Each line of cases.txt is a kind and its fields in hexadecimal, `-` for an empty one: `script TEXT` or `path TEXT` for
 //! the tokens of a text; `contract READ WRITE` for the trees of a contract; and for what is permitted of a path
 //! `expression PATH READ WRITE`, `depth PATH NUMBERS` and `both PATH READ WRITE READ WRITE`.
+#![tactic(auto)]
+
 #[cfg(test)]
 mod examples;
 

@@ -1,4 +1,6 @@
 //! Contracts: which paths may be read, and which may be written.
+#![tactic(auto)]
+
 pub mod both;
 pub mod contract;
 pub mod depth;

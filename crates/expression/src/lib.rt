@@ -1,4 +1,6 @@
 //! Path expressions: how they are read, and what they stand for.
+#![tactic(auto)]
+
 pub mod letter;
 pub mod operation;
 pub mod parser;

@@ -1,5 +1,7 @@
 //! Builds a document in a table, lays two overlays over it, changes and cuts properties through them, and shows that the
 //! table beneath is untouched; then tries both sides of each limit of the stores.
+#![tactic(auto)]
+
 use lexer::refusal::Reason;
 use overlay::overlay::Overlay;
 use store::store::Store;

@@ -1,4 +1,6 @@
 //! Fills lent places with a bounded list, of numbers and of records, and shows what the host then finds there.
+#![tactic(auto)]
+
 ghost use Rattle.std.specs.Prelude.{◌≡◌, cond, length, nat_lt, slice_set};
 
 use bounded::Bounded;

@@ -1,4 +1,6 @@
 //! Says of each path in a list whether a contract lets it be read and written, or where the contract is refused.
+#![tactic(auto)]
+
 ghost use Rattle.pathcheck.specs.Lines.{marks_text, wrong_text, refusal_text};
 ghost use Rattle.std.specs.Prelude.{◌≡◌, IfOk, string_bytes};
 

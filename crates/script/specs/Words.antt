@@ -1,5 +1,5 @@
 -- The words of scripts that are no names.
-use Rattle.std.specs.Prelude.{ℕ, Bool, cond, List, codes}
+use Rattle.std.specs.Prelude.{ℕ, cond, List, codes}
 use Rattle.std.specs.Str.{bytes_eq}
 
 pub data Word : Type 0 where

@@ -1,2 +1,4 @@
 //! Scripts: their tree, and how they are read.
+#![tactic(auto)]
+
 pub mod theorems;

@@ -1,4 +1,6 @@
 //! Stores of an object graph: the values of properties, the calls of a store, and the search that stores share.
+#![tactic(auto)]
+
 pub mod checks;
 pub mod label;
 pub mod search;

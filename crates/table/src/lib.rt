@@ -1,3 +1,5 @@
 //! A store in cells that the host lends: one cell for each property that holds something.
+#![tactic(auto)]
+
 pub mod cell;
 pub mod node_table;

@@ -4,8 +4,8 @@ use Rattle.std.proofs.lemmas.List.{length-take-le, drop-set-lt, set_past}
 use Rattle.std.proofs.lemmas.Bool.{lt-ltb, le-ltb}
 use Rattle.bounded.proofs.Bounded.replace.Goals as goal
 
-pub returns-then-at-self : goal.returns-then-at-self
-returns-then-at-self g c =
+pub returns : goal.returns
+returns g c =
     let b = c.args.self.now in
     let was : length (take b.used b.places.now) ≡ b.used = length-take-le b.used b.places.now (omega arith) in
     let past : length (take b.used b.places.now) ≤ c.args.at = omega arith in
@@ -17,8 +17,8 @@ returns-then-at-self g c =
       lender = refl;
     }
 
-pub returns : goal.returns
-returns g c =
+pub returns-then-at-self : goal.returns-then-at-self
+returns-then-at-self g c =
     let b = c.args.self.now in
     let was : length (take b.used b.places.now) ≡ b.used = length-take-le b.used b.places.now (omega arith) in
     let before : c.args.at < b.used = omega arith in
