@@ -45,7 +45,7 @@ by_word {A} n f i e w s c h none = go (word_of n) none
 
 module _ (a : Around) (outer : List Level) (l : Level) (h : Bool) where
   -- after the dot of a path only a name comes
-  stuck_dotted : (v : Name) (ss : List Step) (t : Lexeme) (at : ℕ) → name_in t ≡ None → advance t at (in_expression a outer l (dotted h v ss)) ≡ None
+  pub stuck_dotted : (v : Name) (ss : List Step) (t : Lexeme) (at : ℕ) → name_in t ≡ None → advance t at (in_expression a outer l (dotted h v ss)) ≡ None
   unfolding advance_at inner_advance
   stuck_dotted v ss (name n) at none =
       by_word n (λ w. goes_inside (in_expression a outer l (dotted h v ss)) a.purpose (inner_word w n at (inner outer l (dotted h v ss)))) refl refl refl refl refl refl none
@@ -178,8 +178,8 @@ after_compared p = record { compared = Some p; summed = None; multiplied = None 
 -- two levels inside the same brackets, with atoms last, read on alike where they let the same token pass
 module _ (a : Around) (outer : List Level) (k l : Level) (d e : Expr) where
   pub levels_alike : (r : Reader) (vs : List Name) → advance (next_of r) (next_place r) (in_expression a outer k (held d)) ≡ advance (next_of r) (next_place r) (in_expression a outer l (held e)) → read vs (in_expression a outer k (held d)) (tokens_from r) ≡ read vs (in_expression a outer l (held e)) (tokens_from r)
-  levels_alike r vs same =
-      reads_alike (in_expression a outer k (held d)) (in_expression a outer l (held e)) (no_end_inside a outer k (held d) ∙ sym (no_end_inside a outer l (held e))) refl refl r vs same
+  levels_alike r vs alike =
+      reads_alike (in_expression a outer k (held d)) (in_expression a outer l (held e)) (no_end_inside a outer k (held d) ∙ sym (no_end_inside a outer l (held e))) refl refl r vs alike
 
   -- words pass after no atom
   pub words_alike : (n : Name) (at : ℕ) (w : Word) → goes_inside (in_expression a outer k (held d)) a.purpose (inner_word w n at (inner outer k (held d))) ≡ goes_inside (in_expression a outer l (held e)) a.purpose (inner_word w n at (inner outer l (held e)))

@@ -3,4 +3,4 @@ use Rattle.parser.proofs.Numbers.{count}
 use Rattle.parser.proofs.variables.Variables.len.Goals as goal
 
 pub returns : goal.returns
-returns c = (sym (count c.args.self.now), c.args.self.now.within)
+returns c = record { value = sym (count c.args.self.now); upper_bound = c.args.self.now.within }
