@@ -1,5 +1,5 @@
 -- What becomes of the next token of a reader: it is passed, it passes a limit, or it is refused.
-use Rattle.std.proofs.Common.{◌≡◌, ℕ, ◌<◌, ◌≤◌, Bool, true, false, cond, ◌&&◌, leb, List, length, Some, None, Option, sym, refl, ap, ◌∙◌, arith}
+use Rattle.std.proofs.Common.{◌≡◌, ℕ, ◌<◌, ◌≤◌, Bool, true, false, cond, ◌&&◌, leb, List, length, Some, None, sym, refl, ap, ◌∙◌, arith}
 use Rattle.std.proofs.lemmas.Bool.{lt-leb, le-leb}
 use Rattle.lexer.specs.Names.{Name}
 use Rattle.lexer.specs.Readers.{text_of, place_of, language_of, tokens_from, next_of, next_place, past_next, Moved}
@@ -9,8 +9,7 @@ use Rattle.lexer.specs.declared.refusal.Reason.{Reason}
 use Rattle.lexer.specs.declared.refusal.Reason.TheVariants.{Deep, Many}
 use Rattle.lexer.proofs.Moves.{moved_tokens, sign_is}
 use Rattle.lexer.proofs.Rows.{tokens_step}
-use Rattle.script.specs.Reading.{Stand, State, advance, finish, depth, opens, after_dot, if_plain, with_variable, variables_after, passes, carry_on, read, refused}
-use Rattle.script.specs.Words.{plain_word, word_of}
+use Rattle.script.specs.Reading.{State, advance, finish, depth, opens, after_dot, if_plain, with_variable, variables_after, passes, carry_on, read, refused}
 use Rattle.parser.specs.Parsing.{NamePassed}
 
 -- reading on from a reader is reading its next token, and then those after it

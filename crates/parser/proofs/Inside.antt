@@ -1,18 +1,17 @@
 -- States inside an expression: which tokens they let pass, and which states let the same tokens pass.
-use Rattle.std.proofs.Common.{◌≡◌, ℕ, ◌+◌, Bool, true, false, cond, not, ◌&&◌, eqb, List, [], ◌∷◌, ◌++◌, length, Some, None, Option, sym, refl, ap, ◌∙◌, arith}
-use Rattle.std.proofs.lemmas.Bool.{eqb-true, not-true, both_ways, and_parts}
+use Rattle.std.proofs.Common.{◌≡◌, ℕ, Bool, true, false, cond, not, eqb, List, [], ◌∷◌, Some, None, Option, sym, refl, ap, ◌∙◌, arith}
+use Rattle.std.proofs.lemmas.Bool.{not-true, both_ways}
 use Rattle.lexer.specs.Names.{Name}
 use Rattle.lexer.specs.Readers.{tokens_from, next_of, next_place}
 use Rattle.lexer.specs.Tokens.{Lexeme, name, number, sign, equals, end, bad, is_the_sign}
 use Rattle.lexer.specs.declared.reader.Reader.{Reader}
-use Rattle.script.specs.Reading.{Pending, Level, blank, Spot, wanting, asked, named, dotted, held, atom, Inner, inner, inner_word, inner_advance, goes_inside, word_in, State, Frame, Stand, inside, advance, advance_at, finish, name_in, if_plain, step_at, read}
+use Rattle.script.specs.Reading.{Pending, Level, joined, sum, after_times, after_term, after_comparison, compare, at_level, close_bracket, expression_of, Purpose, assigning, writing, saying, testing, repeating, end_expression, end_condition, Spot, wanting, asked, named, dotted, held, atom, Inner, inner, inner_word, inner_advance, goes_inside, word_in, Frame, advance, advance_at, finish, name_in, if_plain, read}
 use Rattle.script.specs.Trees.{Step, Operator, plus, minus, times, less, same, Expr, binary}
 use Rattle.script.specs.Words.{Word, if_word, else_word, while_word, say_word, cut_word, has_word, plain_word, word_of}
-use Rattle.parser.specs.Parsing.{Around, in_expression, none_of, operator_at, sign_operator, equals_operator, Trail, Approach}
+use Rattle.parser.specs.Parsing.{Around, in_expression, none_of, operator_at, Trail, Approach}
 use Rattle.parser.specs.declared.node.Operator.{Operator as Held}
 use Rattle.parser.specs.declared.node.Operator.TheVariants.{Plus, Minus, Times, Less, Same}
-use Rattle.parser.specs.declared.operators.Rank.{Rank}
-use Rattle.parser.specs.declared.operators.Rank.TheVariants.{Product, Sum, Comparison}
+use Rattle.parser.specs.declared.operators.Rank.TheVariants.{Product}
 use Rattle.parser.proofs.Advances.{reads_alike}
 
 -- a choice between equals
@@ -191,6 +190,64 @@ module _ (a : Around) (outer : List Level) (k l : Level) (d e : Expr) where
   words_alike n at has_word = refl
   words_alike n at plain_word = refl
 
+-- two levels with the same whole, after whose trees only `*` may tell them apart: the same signs pass
+module _ (a : Around) (outer : List Level) (k l : Level) (d e : Expr) (sums : sum k d ≡ sum l e) (compared : k.compared ≡ l.compared) where
+  ends : (ls : List Level) → expression_of (inner outer k (held d)) ls (Some d) ≡ expression_of (inner outer l (held e)) ls (Some e)
+  ends [] = λ i. Some (joined (compared i) (sums i))
+  ends (x ∷ xs) = refl
+
+  finishes : (q : Purpose) (m : Option Expr) → end_expression (in_expression a outer k (held d)) q m ≡ end_expression (in_expression a outer l (held e)) q m
+  finishes q None = refl
+  finishes (assigning v) (Some x) = refl
+  finishes (writing v ss) (Some x) = refl
+  finishes (saying at) (Some x) = refl
+  finishes (testing at) (Some x) = refl
+  finishes (repeating at) (Some x) = refl
+
+  branches : (q : Purpose) (m : Option Expr) → end_condition (in_expression a outer k (held d)) q m ≡ end_condition (in_expression a outer l (held e)) q m
+  branches q None = refl
+  branches (assigning v) (Some x) = refl
+  branches (writing v ss) (Some x) = refl
+  branches (saying at) (Some x) = refl
+  branches (testing at) (Some x) = refl
+  branches (repeating at) (Some x) = refl
+
+  goes_on : (q : Purpose) (m : Option Inner) → goes_inside (in_expression a outer k (held d)) q m ≡ goes_inside (in_expression a outer l (held e)) q m
+  goes_on q None = refl
+  goes_on q (Some i) = refl
+
+  closes : (ls : List Level) → close_bracket (inner outer k (held d)) ls (Some d) ≡ close_bracket (inner outer l (held e)) ls (Some e)
+  closes [] = refl
+  closes (x ∷ xs) = λ i. Some (inner xs x (held (joined (compared i) (sums i))))
+
+  compares : (o : Operator) (at : ℕ) (c : Option Pending) → at_level (inner outer k (held d)) (after_comparison o at k d c) ≡ at_level (inner outer l (held e)) (after_comparison o at l e c)
+  compares o at None = λ i. Some (inner outer (record { compared = Some (pending o at (sums i)); summed = None; multiplied = None }) wanting)
+  compares o at (Some c) = refl
+
+  compares_on : (o : Operator) (at : ℕ) → at_level (inner outer k (held d)) (compare o at k d) ≡ at_level (inner outer l (held e)) (compare o at l e)
+  compares_on o at = compares o at k.compared ∙ ap (λ c. at_level (inner outer l (held e)) (after_comparison o at l e c)) compared
+
+  -- `==` passes in both
+  pub equals_alike : (at : ℕ) → advance equals at (in_expression a outer k (held d)) ≡ advance equals at (in_expression a outer l (held e))
+  unfolding advance_at inner_advance
+  equals_alike at = goes_on a.purpose _ ∙ ap (goes_inside (in_expression a outer l (held e)) a.purpose) (compares_on same at)
+
+  -- the sign passes in both, if it does where it is `*`
+  pub signs_alike : (b at : ℕ) → ((m : Option Inner) → cond (eqb b 42) (at_level (inner outer k (held d)) (after_times at k d)) m ≡ cond (eqb b 42) (at_level (inner outer l (held e)) (after_times at l e)) m) → advance (sign b) at (in_expression a outer k (held d)) ≡ advance (sign b) at (in_expression a outer l (held e))
+  unfolding advance_at inner_advance
+  signs_alike b at times_alike =
+      let S = in_expression a outer l (held e) in
+      let added : (o : Operator) → at_level (inner outer k (held d)) (after_term o at k d) ≡ at_level (inner outer l (held e)) (after_term o at l e) = λ o i. Some (inner outer (record { compared = compared i; summed = Some (pending o at (sums i)); multiplied = None }) wanting) in
+      let inward : inner_advance (sign b) at (inner outer k (held d)) ≡ inner_advance (sign b) at (inner outer l (held e)) =
+      ap (λ m. cond (eqb b 40) None (cond (eqb b 41) (close_bracket (inner outer k (held d)) outer (Some d)) (cond (eqb b 46) None m))) (times_alike _)
+      ∙ (λ i. cond (eqb b 40) None (cond (eqb b 41) (closes outer i) (cond (eqb b 46) None (cond (eqb b 42) (at_level (inner outer l (held e)) (after_times at l e)) (cond (eqb b 43) (added plus i) (cond (eqb b 45) (added minus i) (cond (eqb b 60) (compares_on less at i) None))))))) in
+      λ i. cond (eqb b 59) ((finishes a.purpose _ ∙ ap (end_expression S a.purpose) (ends outer)) i) (cond (eqb b 123) ((branches a.purpose _ ∙ ap (end_condition S a.purpose) (ends outer)) i) ((goes_on a.purpose _ ∙ ap (goes_inside S a.purpose) inward) i))
+
+-- where `*` does not come, it does not matter what it would pass
+no_star : {A : Type 0} (t : Bool) (x y m : A) → none_of (cond t (Some Times) None) ≡ true → cond t x m ≡ cond t y m
+no_star true x y m h = let z : ◌≡◌ {A = ℕ} 0 1 = cc in absurd (omega arith)
+no_star false x y m h = refl
+
 module _ (a : Around) (outer : List Level) (r : Reader) (vs : List Name) (o : Operator) (at : ℕ) (d e : Expr) where
   -- after the last atom of a product
   pub multiplies : (c s : Option Pending) → read vs (in_expression a outer (after_product c s (pending o at d)) (held e)) (tokens_from r) ≡ read vs (in_expression a outer (record { compared = c; summed = s; multiplied = None }) (held (binary o at d e))) (tokens_from r)
@@ -200,20 +257,20 @@ module _ (a : Around) (outer : List Level) (r : Reader) (vs : List Name) (o : Op
       by : (t : Lexeme) (p : ℕ) → advance t p (in_expression a outer (after_product c s (pending o at d)) (held e)) ≡ advance t p (in_expression a outer (record { compared = c; summed = s; multiplied = None }) (held (binary o at d e)))
       by (name n) p = words_alike a outer (after_product c s (pending o at d)) _ e (binary o at d e) n p (word_of n)
       by (number n) p = refl
-      by (sign b) p = ?
-      by equals p = refl
+      by (sign b) p = signs_alike a outer (after_product c s (pending o at d)) (record { compared = c; summed = s; multiplied = None }) e (binary o at d e) refl refl b p (λ m. refl)
+      by equals p = equals_alike a outer (after_product c s (pending o at d)) (record { compared = c; summed = s; multiplied = None }) e (binary o at d e) refl refl p
       by end p = refl
       by bad p = refl
 
   -- after the last product of a sum, which no `*` follows
   pub adds : (c : Option Pending) → none_of (operator_at Product (next_of r)) ≡ true → read vs (in_expression a outer (after_sum c (pending o at d)) (held e)) (tokens_from r) ≡ read vs (in_expression a outer (record { compared = c; summed = None; multiplied = None }) (held (binary o at d e))) (tokens_from r)
   unfolding advance_at inner_advance
-  adds c no-times = levels_alike a outer (after_sum c (pending o at d)) _ e (binary o at d e) r vs (by (next_of r) (next_place r) no-times)
+  adds c no_times = levels_alike a outer (after_sum c (pending o at d)) _ e (binary o at d e) r vs (by (next_of r) (next_place r) no_times)
     where
       by : (t : Lexeme) (p : ℕ) → none_of (operator_at Product t) ≡ true → advance t p (in_expression a outer (after_sum c (pending o at d)) (held e)) ≡ advance t p (in_expression a outer (record { compared = c; summed = None; multiplied = None }) (held (binary o at d e)))
       by (name n) p h = words_alike a outer (after_sum c (pending o at d)) _ e (binary o at d e) n p (word_of n)
       by (number n) p h = refl
-      by (sign b) p h = ?
-      by equals p h = refl
+      by (sign b) p h = signs_alike a outer (after_sum c (pending o at d)) (record { compared = c; summed = None; multiplied = None }) e (binary o at d e) refl refl b p (λ m. no_star (eqb b 42) _ _ m h)
+      by equals p h = equals_alike a outer (after_sum c (pending o at d)) (record { compared = c; summed = None; multiplied = None }) e (binary o at d e) refl refl p
       by end p h = refl
       by bad p h = refl

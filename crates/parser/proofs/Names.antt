@@ -1,8 +1,8 @@
 -- Names that a reader passes: where they stand in the text.
-use Rattle.std.proofs.Common.{◌≡◌, ℕ, ◌+◌, ◌-◌, ◌<◌, ◌≤◌, true, List, length, take, drop, sym, ap, ◌∙◌, subst, arith, length-drop, length-take, Bor}
+use Rattle.std.proofs.Common.{◌≡◌, ℕ, ◌-◌, ◌<◌, true, List, length, take, drop, sym, ap, ◌∙◌, subst, arith, length-drop, Bor}
 use Rattle.std.proofs.lemmas.List.{length-take-le}
 use Rattle.lexer.specs.Names.{lawful}
-use Rattle.lexer.specs.Readers.{text_of, place_of, language_of, next_of, next_place, past_next, Moved}
+use Rattle.lexer.specs.Readers.{text_of, place_of, language_of, next_of, Moved}
 use Rattle.lexer.specs.Tokens.{name, Lexed, lex, lexed_of, lexeme_of, part, Spans, Lies}
 use Rattle.lexer.specs.declared.reader.Reader.{Reader}
 use Rattle.lexer.specs.declared.token.Placed.{Placed}

@@ -1,5 +1,5 @@
 -- What a tree's nodes are does not hang on the variables that come after it, and neither does that it is sound.
-use Rattle.std.proofs.Common.{◌≡◌, ℕ, suc, ◌-◌, ◌≤◌, Bool, true, false, cond, ◌||◌, List, [], ◌∷◌, ◌++◌, length, sym, refl, ap, ◌∙◌, arith}
+use Rattle.std.proofs.Common.{◌≡◌, ℕ, suc, ◌-◌, ◌≤◌, Bool, true, false, cond, ◌||◌, List, [], ◌∷◌, ◌++◌, length, refl, ap, arith}
 use Rattle.std.specs.Str.{bytes_eq}
 use Rattle.lexer.specs.Names.{Name}
 use Rattle.script.specs.Reading.{among}

@@ -1,19 +1,19 @@
 -- What names after dots give, and a whole path.
-use Rattle.std.proofs.Common.{◌≡◌, ℕ, ◌+◌, ◌<◌, ◌≤◌, Bool, true, false, cond, ◌⊎◌, List, [], ◌∷◌, ◌++◌, length, Some, None, Ok, Err, Result, sym, refl, ap, ◌∙◌, subst, inl, inr, append_assoc, append-nil, arith, length-append}
+use Rattle.std.proofs.Common.{◌≡◌, ℕ, ◌+◌, ◌≤◌, Bool, true, false, cond, List, [], ◌∷◌, ◌++◌, length, Some, Ok, Err, Result, sym, refl, ap, ◌∙◌, subst, inl, inr, append_assoc, append-nil, arith}
 use Rattle.std.proofs.lemmas.List.{length_push}
-use Rattle.bounded.specs.Filled.{filled, places_of}
+use Rattle.bounded.specs.Filled.{filled}
 use Rattle.bounded.specs.declared.Bounded.{Bounded}
 use Rattle.lexer.specs.Names.{Name}
-use Rattle.lexer.specs.Readers.{text_of, place_of, language_of, tokens_from, next_of, next_place, Moved, Accepted}
+use Rattle.lexer.specs.Readers.{text_of, place_of, language_of, tokens_from, next_place, Moved, Accepted}
 use Rattle.lexer.specs.Tokens.{is_the_sign}
 use Rattle.lexer.specs.declared.reader.Reader.{Reader}
 use Rattle.lexer.specs.declared.refusal.Refusal.{Refusal}
 use Rattle.lexer.proofs.Moves.{moved_tokens, moved_next}
 use Rattle.script.specs.Reading.{step_at, among, with_variable, read, refused}
 use Rattle.script.specs.Trees.{Step}
-use Rattle.parser.specs.Code.{steps_code, path_code, Stands, AllStand}
-use Rattle.parser.specs.Numbering.{variables_of, index_of}
-use Rattle.parser.specs.Parsing.{Kept, NamePassed, NoName, Trail, StepsMade, StepsRead, Approach, VariablePassed, Seventeenth, VariableRead, PathMade, PathRead}
+use Rattle.parser.specs.Code.{steps_code, Stands, AllStand}
+use Rattle.parser.specs.Numbering.{variables_of}
+use Rattle.parser.specs.Parsing.{Kept, NamePassed, NoName, Trail, StepsMade, StepsRead, Approach, VariablePassed, VariableRead, PathRead}
 use Rattle.parser.specs.declared.node.Node.{Node}
 use Rattle.parser.specs.declared.node.Node.TheVariants as node
 use Rattle.parser.specs.declared.variables.Variables.{Variables}

@@ -1,5 +1,5 @@
 -- The variables that the code holds, and their numbers.
-use Rattle.std.specs.Prelude.{◌≡◌, ℕ, suc, ◌<◌, ◌≤◌, true, false, cond, List, [], ◌∷◌, ◌++◌, map, length, take, Some, None, Option}
+use Rattle.std.specs.Prelude.{◌≡◌, ℕ, suc, ◌<◌, ◌≤◌, true, false, cond, List, [], ◌∷◌, map, length, take, Some, None, Option}
 use Rattle.std.specs.Str.{bytes_eq}
 use Rattle.lexer.specs.Names.{Name}
 use Rattle.lexer.specs.Spelled.{spelled}

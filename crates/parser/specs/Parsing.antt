@@ -1,6 +1,6 @@
 -- What the functions promise that read expressions and statements. Each reads one part of the grammar from where the
 -- reader stands and writes the nodes of its tree after those that are there.
-use Rattle.std.specs.Prelude.{◌≡◌, ℕ, ◌+◌, ◌-◌, ◌*◌, ◌<◌, ◌≤◌, Bool, true, false, cond, not, ◌&&◌, ◌||◌, ◌⊎◌, List, [], ◌∷◌, ◌++◌, length, Some, None, Ok, Err, Option, Result, ◌==◌}
+use Rattle.std.specs.Prelude.{◌≡◌, ℕ, ◌+◌, ◌-◌, ◌*◌, ◌<◌, ◌≤◌, Bool, true, false, cond, ◌&&◌, ◌⊎◌, List, [], ◌∷◌, ◌++◌, length, Some, None, Ok, Err, Option, Result, ◌==◌}
 use Rattle.bounded.specs.Filled.{filled, places_of}
 use Rattle.bounded.specs.declared.Bounded.{Bounded}
 use Rattle.lexer.specs.Names.{Name, lawful}
@@ -9,10 +9,10 @@ use Rattle.lexer.specs.Tokens.{Lexeme, name, number, sign, equals, end, bad, is_
 use Rattle.lexer.specs.declared.reader.Reader.{Reader}
 use Rattle.lexer.specs.declared.refusal.Reason.TheVariants.{Many}
 use Rattle.lexer.specs.declared.refusal.Refusal.{Refusal}
-use Rattle.script.specs.Reading.{Pending, Level, blank, Spot, wanting, held, inner, Purpose, Stand, ready, inside, Opened, Frame, State, state, open_brace, close_frame, followed, advance, finish, brackets_in, after_dot, step_at, name_in, among, with_variable, read, Outcome, accepted, refused, read_script}
-use Rattle.script.specs.Trees.{Step, Expr, Statement, Block, done}
+use Rattle.script.specs.Reading.{Pending, Level, blank, Spot, wanting, held, inner, Purpose, inside, Frame, State, state, advance, finish, after_dot, step_at, name_in, among, with_variable, read, refused}
+use Rattle.script.specs.Trees.{Step, Expr, Block}
 use Rattle.script.specs.Words.{plain_word, word_of}
-use Rattle.parser.specs.Code.{Stands, SoundPath, path_code, steps_code, expression_code, statement_code, block_code, AllStand, Sound, Low, SoundStatement, SoundBlock}
+use Rattle.parser.specs.Code.{Stands, SoundPath, path_code, steps_code, expression_code, AllStand, Sound, Low}
 use Rattle.parser.specs.Numbering.{variables_of, index_of}
 use Rattle.parser.specs.declared.node.Node.{Node}
 use Rattle.parser.specs.declared.node.Operator.{Operator}

@@ -1,4 +1,6 @@
 //! Scripts, read from a text into nodes that the host lends.
+#![tactic(auto)]
+
 pub mod node;
 pub mod operators;
 mod output;

@@ -1,5 +1,4 @@
 use Rattle.std.proofs.Common.{sym, ap}
-use Rattle.lexer.specs.Readers.{Moved}
 use Rattle.parser.proofs.Names.{name_passed, name_lawful, peeked}
 use Rattle.parser.proofs.paths.name.Goals as goal
 

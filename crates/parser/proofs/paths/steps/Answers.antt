@@ -1,4 +1,3 @@
-use Rattle.std.proofs.Common.{◌≡◌}
 use Rattle.std.proofs.lemmas.Result.{err_from_is_err_and}
 use Rattle.parser.proofs.Trails.{stepping_starts, stepping_on, stepping_breaks, stepping_ends}
 use Rattle.parser.proofs.paths.steps.Goals as goal

@@ -1,4 +1,4 @@
-use Rattle.std.proofs.Common.{sym, arith}
+use Rattle.std.proofs.Common.{sym}
 use Rattle.parser.proofs.Numbers.{count}
 use Rattle.parser.proofs.variables.Variables.len.Goals as goal
 
