@@ -7,7 +7,10 @@ use contract::path_text::permits_text;
 use contract::permits::{may_read, may_write};
 use expression::texts::Text;
 use lexer::name::Name;
+use lexer::reader::Reader;
 use lexer::refusal::Reason;
+use lexer::token::Language;
+use parser::word::{Word, classify};
 use std::test::Fail;
 
 /// The contract by two texts, which can be read.
@@ -114,5 +117,36 @@ fn paths_of_names_are_permitted(rt: HostRuntime) -> Result<(), Fail> {
     assert_eq!(rt; may_write(&contract, &path[0..1]), false);
     assert_eq!(rt; may_read(&contract, &path[1..2]), false);
     assert_eq!(rt; may_write(&contract, &path[1..2]), false);
+    Ok(())
+}
+
+#[test]
+fn a_sign_is_passed_and_other_tokens_stay(rt: HostRuntime) -> Result<(), Fail> {
+    let mut reader = Reader::new(b" (a", Language::PathExpression);
+    assert_eq!(rt; reader.accept(b')'), false);
+    assert_eq!(rt; reader.peek().start, 1);
+    assert_eq!(rt; reader.accept(b'('), true);
+    assert_eq!(rt; reader.accept(b'('), false);
+    assert_eq!(rt; reader.peek().start, 2);
+    Ok(())
+}
+
+#[test]
+fn a_bad_token_is_refused_as_one(rt: HostRuntime) -> Result<(), Fail> {
+    let bad = Reader::new(b" #", Language::Script).peek().misplaced();
+    assert_eq!(rt; bad.reason.number(), Reason::Token.number());
+    assert_eq!(rt; bad.place, 1);
+    let end = Reader::new(b"", Language::Script).peek().misplaced();
+    assert_eq!(rt; end.reason.number(), Reason::Grammar.number());
+    assert_eq!(rt; end.place, 0);
+    Ok(())
+}
+
+#[test]
+fn words_are_told_from_names(rt: HostRuntime) -> Result<(), Fail> {
+    assert_eq!(rt; matches!(classify(b"if"), Word::If), true);
+    assert_eq!(rt; matches!(classify(b"has"), Word::Has), true);
+    assert_eq!(rt; matches!(classify(b"iff"), Word::Name), true);
+    assert_eq!(rt; matches!(classify(b"i"), Word::Name), true);
     Ok(())
 }

@@ -67,7 +67,7 @@ fn read_letter(
 }
 
 /// Reads a bracket, whose opening sign is the next token.
-#[cycle(alternative_base_bracket_item_sequence)]
+#[cycle(grammar)]
 fn bracket(
     reader: &mut Reader,
     out: &mut Postfix,
@@ -99,7 +99,7 @@ fn bracket(
 }
 
 /// base = name | "?" | "(" [ alternative ] ")"
-#[cycle(alternative_base_bracket_item_sequence)]
+#[cycle(grammar)]
 fn base(
     reader: &mut Reader,
     out: &mut Postfix,
@@ -130,7 +130,7 @@ fn base(
 }
 
 /// item = base [ "*" ]
-#[cycle(alternative_base_bracket_item_sequence)]
+#[cycle(grammar)]
 fn item(
     reader: &mut Reader,
     out: &mut Postfix,
@@ -149,7 +149,7 @@ fn item(
 }
 
 /// sequence = item { "." item }
-#[cycle(alternative_base_bracket_item_sequence)]
+#[cycle(grammar)]
 fn sequence(
     reader: &mut Reader,
     out: &mut Postfix,
@@ -169,7 +169,7 @@ fn sequence(
 }
 
 /// alternative = sequence { "|" sequence }
-#[cycle(alternative_base_bracket_item_sequence)]
+#[cycle(grammar)]
 fn alternative(
     reader: &mut Reader,
     out: &mut Postfix,

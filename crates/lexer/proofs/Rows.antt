@@ -47,7 +47,7 @@ second (b ∷ bs) e = omega arith
 fine_sign : (at b : ℕ) (bs : List ℕ) → Fine at (suc (length bs)) (signed at b bs)
 fine_sign at b bs =
     cond_both (eqb b 61 && eqb (get_or bs 0 0) 61) (lexed equals at (at + 2)) (lexed (sign b) at (at + 1)) (Fine at (suc (length bs)))
-    (λ e. let more : 1 ≤ length bs = second bs (eqb-true _ _ (and_parts _ _ e).1) in (omega arith, omega arith))
+    (λ e. let more : 1 ≤ length bs = second bs (eqb-true (get_or bs 0 0) 61 (and_parts (eqb b 61) (eqb (get_or bs 0 0) 61) e).1) in (omega arith, omega arith))
     (λ _. (omega arith, omega arith))
 
 fine_front : (l : Language) (at : ℕ) (bs : List ℕ) → Fine at (length bs) (front l at bs)

@@ -3,6 +3,8 @@
 
 ghost use Rattle.std.specs.Prelude.{◌≡◌, cond, length, nat_lt, slice_set};
 
+mod examples;
+
 use bounded::Bounded;
 
 /// Notes an entry in the first place, if there is one; the other places keep what they held.

@@ -90,8 +90,8 @@ module _ (vs : List Name) (n : Name) (sought : Sought vs n None) where
   numbered_new ws i e at few =
       (e ∙ sym added, ap (λ us. among us n) e ∙ among_end vs n, at ∙ sym (index_end vs n sought) ∙ ap (λ us. index_of us n) (sym e), omega (arith, ap length e ∙ length_push vs n))
 
-  pub numbered_many : (ws : List Name) → 16 ≤ length vs → Numbered vs n ws None
-  numbered_many ws full = omega (arith, ap length added ∙ length_push vs n)
+  pub numbered_many : 16 ≤ length vs → Numbered vs n vs None
+  numbered_many full = (omega (arith, ap length added ∙ length_push vs n), refl)
 
 -- a table with one name more
 pub one_more : (t : Variables) (name : Held) (n : Name) → t.used < 16 → spelled name ≡ n → map spelled (take (t.used + 1) (set t.names t.used name)) ≡ variables_of t ++ n ∷ []

@@ -13,7 +13,7 @@ use Rattle.script.specs.Reading.{step_at, among, with_variable, read, refused}
 use Rattle.script.specs.Trees.{Step}
 use Rattle.parser.specs.Code.{steps_code, Stands, AllStand}
 use Rattle.parser.specs.Numbering.{variables_of}
-use Rattle.parser.specs.Parsing.{Kept, NamePassed, NoName, Trail, StepsMade, StepsRead, Approach, VariablePassed, VariableRead, PathRead}
+use Rattle.parser.specs.Parsing.{Kept, NamePassed, NoName, Trail, StepsMade, StepsRead, Approach, VariablePassed, NoVariable, PathRead}
 use Rattle.parser.specs.declared.node.Node.{Node}
 use Rattle.parser.specs.declared.node.Node.TheVariants as node
 use Rattle.parser.specs.declared.variables.Variables.{Variables}
@@ -145,7 +145,7 @@ extends vs n = go (among vs n)
 pub few_variables : (t : Variables) → length (variables_of t) ≤ 16
 few_variables t = let within = t.within in omega (arith, count t)
 
-pub path_breaks : {r s : Reader} {o : Bounded Node} {v w : Variables} {x : Refusal} → VariableRead r s v w (Err x) → PathRead r s o o v w (Err x)
+pub path_breaks : {r s : Reader} {o : Bounded Node} {v w : Variables} {x : Refusal} → NoVariable r s v x → PathRead r s o o v w (Err x)
 path_breaks {r} {s} {o} {v} {w} {x} (inl none) = record {
   text = none.1.text;
   language = none.1.language;

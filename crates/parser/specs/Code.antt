@@ -1,5 +1,5 @@
 -- The nodes of a script's tree. An expression stands in postfix order. A statement stands before its parts and tells how
--- many nodes each of them has; a block is its statements, one after the other.
+-- many nodes each of them has; a block is its statements, one after the other. So far functions write those of paths.
 use Rattle.std.specs.Prelude.{◌≡◌, ℕ, ◌+◌, ◌-◌, ◌≤◌, true, List, [], ◌∷◌, ◌++◌, length, take, drop, pos}
 use Rattle.lexer.specs.Names.{Name}
 use Rattle.script.specs.Reading.{among}

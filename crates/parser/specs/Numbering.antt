@@ -20,7 +20,7 @@ abbrev pub Sought : List Name → Name → Option ℕ → Type 0
 Sought vs n (Some i) = (among vs n ≡ true) × (i ≡ index_of vs n)
 Sought vs n None = among vs n ≡ false
 
--- the number of a name after it was added to the variables, or none where it would be the seventeenth
+-- the number of a name after it was added to the variables; none where it would be the seventeenth, and is not added
 abbrev pub Numbered : List Name → Name → List Name → Option ℕ → Type 0
 Numbered vs n ws (Some i) = (ws ≡ with_variable vs false (Some n)) × (among ws n ≡ true) × (i ≡ index_of ws n) × (length ws ≤ 16)
-Numbered vs n ws None = 16 < length (with_variable vs false (Some n))
+Numbered vs n ws None = (16 < length (with_variable vs false (Some n))) × (ws ≡ vs)

@@ -1,5 +1,5 @@
--- What the functions promise that read expressions and statements. Each reads one part of the grammar from where the
--- reader stands and writes the nodes of its tree after those that are there.
+-- What the functions promise that read parts of scripts. Each reads one part of the grammar from where the reader stands
+-- and writes the nodes of its tree after those that are there.
 use Rattle.std.specs.Prelude.{◌≡◌, ℕ, ◌+◌, ◌-◌, ◌*◌, ◌<◌, ◌≤◌, Bool, true, false, cond, ◌&&◌, ◌⊎◌, List, [], ◌∷◌, ◌++◌, length, Some, None, Ok, Err, Option, Result, ◌==◌}
 use Rattle.bounded.specs.Filled.{filled, places_of}
 use Rattle.bounded.specs.declared.Bounded.{Bounded}
@@ -98,9 +98,13 @@ pub record Seventeenth (r s : Reader) (v : Variables) (x : Refusal) : Type 0 whe
   pub reason : x.reason ≡ Many
   pub place : x.place ≡ next_place r
 
+-- no variable was read
+abbrev pub NoVariable : Reader → Reader → Variables → Refusal → Type 0
+NoVariable r s v x = (NoName r x × Moved r s (place_of r)) ⊎ Seventeenth r s v x
+
 abbrev pub VariableRead : Reader → Reader → Variables → Variables → Result ℕ Refusal → Type 0
 VariableRead r s v w (Ok i) = VariablePassed r s v w i
-VariableRead r s v w (Err x) = (NoName r x × Moved r s (place_of r)) ⊎ Seventeenth r s v x
+VariableRead r s v w (Err x) = NoVariable r s v x × (variables_of w ≡ variables_of v)
 
 -- where names after dots can come: the state after some of them, and the state after a dot
 pub record Trail : Type 0 where
@@ -167,7 +171,7 @@ pub record PathRead (r s : Reader) (o u : Bounded Node) (v w : Variables) (x : R
   pub kept : Kept o u
   pub said : PathSaid r s o u v w x
 
--- ---- expressions
+-- ---- expressions: no function reads them yet
 
 -- where an expression stands: the open braces, the statements before it, and what it is read for
 pub record Around : Type 0 where

@@ -195,7 +195,8 @@ impl<'a> Reader<'a> {
         self.at = next.stop;
         next
     }
-    /// Passes the next token if it is this sign.
+
+    /// Passes the next token if it is this sign, and tells whether it is; the reader stays before any other.
     pub fn accept(&mut self, sign: u8) -> bool
         ensures { Accepted sign self.old self.new result }
     {

@@ -1,5 +1,5 @@
 -- The one entry fills the first place, and the others are as they were.
-use Rattle.std.proofs.Common.{◌≡◌, true, cond, ltb, List, [], ◌∷◌, ◌++◌, length, take, drop, set, sym, ap, ◌∙◌, arith}
+use Rattle.std.proofs.Common.{◌≡◌, true, cond, ltb, List, [], ◌∷◌, ◌++◌, length, take, drop, set, sym, ap, ◌∙◌, arith, rules}
 use Rattle.std.proofs.lemmas.List.{take-append-drop}
 use Rattle.std.proofs.lemmas.Bool.{lt-ltb}
 use Rattle.lists.proofs.note.Goals as goal
@@ -19,12 +19,14 @@ returns g c =
     let b1 = c.push.new.self in
     let p0 = b0.places.now in
     let p1 = b1.places.now in
-    let tie : c.places-1.given.0 ≡ p1 = c.places-1.given.1.1 (sym (one.lender ∙ start.lender)) in
     let behind : drop b0.used p0 ≡ p0 = ap (λ w. w ++ drop b0.used p0) (sym start.empty) ∙ take-append-drop b0.used p0 in
     let room : ltb (length (take b0.used p0)) (length p0) ≡ ltb 0 (length c.args.places.now) = λ i. ltb (length (start.empty i)) (length (start.places i)) in
     let f = one.filled ∙ (λ i. cond (room i) (start.empty i ++ c.args.entry ∷ []) (start.empty i)) in
     let r = one.rest ∙ (λ i. cond (room i) (drop 1 ((behind ∙ start.places) i)) ((behind ∙ start.places) i)) in
     record {
       told = one.room ∙ room;
-      after = tie ∙ sym (take-append-drop b1.used p1) ∙ noted c.args.places.now c.args.entry _ _ f r;
+      after =
+          let whole : p1 ≡ set c.args.places.now 0 c.args.entry = sym (take-append-drop b1.used p1) ∙ noted c.args.places.now c.args.entry _ _ f r in
+          let lender = sym (one.lender ∙ start.lender) in
+          search rules;
     }

@@ -8,7 +8,7 @@ use Rattle.parser.proofs.paths.path.Goals as goal
 pub returns-in_err-number : goal.returns-in_err-number
 returns-in_err-number c =
     let x = err_from_is_err_and c.from_residual.result c.from_residual.ensures.1 in
-    rw (x.1, x.2) (path_breaks c.in_err-number.ensures)
+    rw (x.1, x.2) (path_breaks c.in_err-number.ensures.0)
 
 pub steps-requires : goal.steps-requires
 steps-requires c =

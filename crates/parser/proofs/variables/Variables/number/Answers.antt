@@ -11,7 +11,7 @@ returns-in-Some c =
 
 pub returns-then-place-ge-MAX_VARIABLES : goal.returns-then-place-ge-MAX_VARIABLES
 returns-then-place-ge-MAX_VARIABLES c =
-    numbered_many (variables_of c.args.self.now) c.args.name.now c.in_default.ensures (variables_of c.args.self.now) (omega (arith, count c.args.self.now))
+    numbered_many (variables_of c.args.self.now) c.args.name.now c.in_default.ensures (omega (arith, count c.args.self.now))
 
 pub returns : goal.returns
 returns c =

@@ -1,7 +1,7 @@
 use Rattle.std.proofs.Common.{◌+◌, ◌*◌}
 use Rattle.expression.specs.Parsing.{unread}
 use Rattle.expression.proofs.Chains.{Going, items, sequences}
-use Rattle.expression.proofs.parser.+alternative_base_bracket_item_sequence.Given as goal
+use Rattle.expression.proofs.parser.+grammar.Given as goal
 
 abbrev pub decreases-alternative : goal.decreases-alternative
 decreases-alternative l = 5 * unread l.reader.now + 5

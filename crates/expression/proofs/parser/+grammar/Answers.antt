@@ -4,7 +4,7 @@ use Rattle.expression.specs.Parsing.{reason_at}
 use Rattle.expression.proofs.Advances.{taken}
 use Rattle.expression.proofs.Operands.{sign_refused, other_refused, too_deep, nothing_read, inner_refused, closed_read, unclosed_refused}
 use Rattle.expression.proofs.Chains.{set_out, again, breaks, finishes, items, sequences, item_starred, item_plain}
-use Rattle.expression.proofs.parser.+alternative_base_bracket_item_sequence.Goals as goal
+use Rattle.expression.proofs.parser.+grammar.Goals as goal
 
 pub alternative-loop-reader-init : goal.alternative-loop-reader-init
 alternative-loop-reader-init t c = set_out sequences _ _ _ _
