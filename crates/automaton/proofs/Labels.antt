@@ -1,6 +1,6 @@
 -- The letters at the positions of two trees, one after the other.
-use Rattle.std.proofs.Common.{◌≡◌, ℕ, ◌+◌, ◌≤◌, true, List, [], ◌++◌, map, length, get_or, take, sym, refl, ap, ◌∙◌, subst, append_assoc, append-nil, arith, length-append}
-use lib.ListN.{get_or-map}
+use Rattle.std.proofs.Common.{◌≡◌, ℕ, ◌+◌, ◌≤◌, true, List, [], ◌++◌, map, length, get_or, sym, refl, ap, ◌∙◌, subst, append_assoc, append-nil, arith, length-append}
+use lib.ListN.{get_or-map, length-map}
 use lib.Seq.{get_or_at}
 use Rattle.lexer.specs.Names.{Name, lawful}
 use Rattle.lexer.specs.Spelled.{spelled}
@@ -11,7 +11,6 @@ use Rattle.expression.specs.Tables.{letter_of, leaves}
 use Rattle.expression.specs.declared.letter.Letter.{Letter as Held}
 use Rattle.expression.specs.declared.letter.Letter.TheVariants.{Any, Named}
 use Rattle.expression.specs.declared.trees.Trees.{Trees}
-use Rattle.expression.proofs.Rebuilt.{letters_count}
 use Rattle.expression.proofs.Tabled.{letters_are}
 use Rattle.automaton.specs.Positions.{size, Labelled}
 use Rattle.automaton.specs.Tells.{letter_at}
@@ -69,20 +68,23 @@ module _ (held : List Held) (a b : Expr) (are : map letter_of held ≡ leaves a 
 
 -- the letters of two trees
 abbrev pub held_by : Trees → List Held
-held_by t = take t.letters.used t.letters.table
+held_by t = t.letters.entries
 
 -- there are at most 62
 pub few_letters : (t : Trees) → size (read_tree t) + size (write_tree t) ≤ 62
 few_letters t =
-    let within : t.letters.used ≤ 62 = t.letters.within in
     omega (
       arith,
       size_is (read_tree t),
       size_is (write_tree t),
       length-append (leaves (read_tree t)) (leaves (write_tree t)),
       ap length (letters_are t),
-      letters_count t.letters,
+      length-map t.letters.entries letter_of,
+      t.few,
     )
+
+pub few_reads : (t : Trees) → length (leaves (read_tree t)) ≤ 62
+few_reads t = omega (arith, few_letters t, size_is (read_tree t))
 
 -- a letter stands for lawful names only
 pub fits_lawful : (l : Held) (p : Name) → fits (letter_of l) p ≡ true → lawful p ≡ true

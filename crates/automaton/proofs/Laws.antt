@@ -1,7 +1,7 @@
 -- The laws of residues.
 use Rattle.std.proofs.Common.{◌≡◌, ℕ, ◌+◌, ◌^◌, ◌<◌, Bool, true, false, ◌&&◌, ◌||◌, eqb, [], ◌∷◌, ◌++◌, get_or, Some, Option, sym, refl, ap, ◌∙◌, subst, inl, inr, arith}
 use Rattle.lexer.specs.Names.{Name, Path, lawful, all_lawful}
-use Rattle.std.proofs.lemmas.Bool.{and_parts, and_from, ne_eqb}
+use Rattle.std.proofs.lemmas.Bool.{and_from, ne_eqb}
 use Rattle.std.proofs.lemmas.Bool.Decides.{nat_tests}
 use Rattle.expression.specs.Expressions.{Letter, Expr, empty, letter, alternative, sequence, star, fits}
 use Rattle.expression.specs.Held.{read_tree, write_tree}
@@ -33,18 +33,15 @@ beginnings_are_left a r p q h =
 -- ---- lawful names
 
 -- the names of joined paths are those of both
-both_lawful : (u v : Path) → all_lawful u ≡ true → all_lawful v ≡ true → all_lawful (u ++ v) ≡ true
-both_lawful [] v h k = k
-both_lawful (p ∷ u) v h k =
-    let l = and_parts (lawful p) (all_lawful u) h in and_from (lawful p) (all_lawful (u ++ v)) l.0 (both_lawful u v l.1 k)
+all_lawful-append : (u v : Path) → all_lawful (u ++ v) ≡ (all_lawful u && all_lawful v)
+all_lawful-append [] v = refl
+all_lawful-append (p ∷ u) v = let h = all_lawful-append u v in grind arith
 
 front_lawful : (u v : Path) → all_lawful (u ++ v) ≡ true → all_lawful u ≡ true
-front_lawful [] v h = refl
-front_lawful (p ∷ u) v h =
-    let l = and_parts (lawful p) (all_lawful (u ++ v)) h in and_from (lawful p) (all_lawful u) l.0 (front_lawful u v l.1)
+front_lawful u v h = let e = all_lawful-append u v in grind arith
 
 joined_lawful : {w : Path} (u v : Path) → u ++ v ≡ w → all_lawful u ≡ true → all_lawful v ≡ true → all_lawful w ≡ true
-joined_lawful u v e h k = subst (λ t. all_lawful t ≡ true) e (both_lawful u v h k)
+joined_lawful u v e h k = let l = all_lawful-append u v in grind arith
 
 repeated_lawful : (P : Path → Type 0) → ((u : Path) → P u → all_lawful u ≡ true) → {w : Path} → Repeated P w → all_lawful w ≡ true
 repeated_lawful P each none = refl

@@ -1,9 +1,8 @@
 pub mod Masks
 pub mod Sums
-pub mod Gathered
 pub mod Piles
 pub mod Runs
-pub mod Positions
+pub mod Rests
 pub mod Steps
 pub mod Quotients
 pub mod Labels

@@ -8,7 +8,7 @@ use Rattle.expression.specs.Expressions.{Letter, Expr, fits}
 use Rattle.expression.specs.Languages.{remaining, ends}
 use Rattle.automaton.specs.Positions.{size, first, follow, rest, Labelled, some, left_by, reached, StepsAreQuotients}
 use Rattle.expression.proofs.Languages.{Within, ends_in, remaining_in, some_in}
-use Rattle.automaton.proofs.Positions.{rest_some, first_some, follow_some}
+use Rattle.automaton.proofs.Rests.{rest_some, first_some, follow_some}
 use Rattle.automaton.proofs.Sums.{some_below}
 use Rattle.automaton.proofs.Steps.{first_step, follow_step}
 

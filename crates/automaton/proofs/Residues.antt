@@ -15,7 +15,7 @@ use Rattle.automaton.specs.Residues.{reads_left, writes_left}
 use Rattle.automaton.specs.Tells.{letter_at, link_of}
 use Rattle.automaton.specs.declared.automaton.Automaton.{Automaton}
 use Rattle.automaton.proofs.Labels.{size_is, first_labelled, second_labelled, few_letters}
-use Rattle.automaton.proofs.Positions.{rest_some, rest_ends, positions_tell_the_empty_path}
+use Rattle.automaton.proofs.Rests.{rest_some, rest_ends, positions_tell_the_empty_path}
 use Rattle.automaton.proofs.Stepped.{not_first, not_follow, reached_by, whole_step, begun_step}
 use Rattle.automaton.proofs.Sums.{some_same, some_positions}
 
@@ -71,7 +71,7 @@ module _ (a : Automaton) where
         ∙ reached_by R 0 (letter_at held) (bit at) (bit at 62) p y
         (λ x. link_of a.follow x y) ((bit at 62 && bit a.reads.first y) || (bit at 63 && bit a.writes.first y)) (matched held p y)
         (λ x l. let k = a.links x y l in let n = not_follow W (size R) x y out in grind arith)
-        (let k = a.read_first y in let m = a.write_first y in let n = not_first W (size R) y out in grind arith)
+        (let k = ap (λ s. s.first y) a.read in let m = ap (λ s. s.first y) a.write in let n = not_first W (size R) y out in grind arith)
         (fit y (omega arith))
 
     write_agrees : (y : ℕ) → is_some (rest W (size R) y) ≡ true → bit r y ≡ reached (letter_at held) W (size R) (bit at) (bit at 63) p y
@@ -82,7 +82,7 @@ module _ (a : Automaton) where
         ∙ reached_by W (size R) (letter_at held) (bit at) (bit at 63) p y
         (λ x. link_of a.follow x y) ((bit at 62 && bit a.reads.first y) || (bit at 63 && bit a.writes.first y)) (matched held p y)
         (λ x l. let k = a.links x y l in let n = not_follow R 0 x y out in grind arith)
-        (let k = a.read_first y in let m = a.write_first y in let n = not_first R 0 y out in grind arith)
+        (let k = ap (λ s. s.first y) a.read in let m = ap (λ s. s.first y) a.write in let n = not_first R 0 y out in grind arith)
         (fit y low)
 
     pub reads_step : (q : Path) → reads_left a r q ≡ reads_left a at (p ∷ q)
@@ -100,19 +100,19 @@ module _ (a : Automaton) where
   -- ---- the empty path
 
   module _ (at : ℕ) where
-    pub readable_is : (t : Bool) (n mask : ℕ) → Marks mask (λ x. ltb x n) → n ≡ length (leaves R)
-        → t ≡ some 64 (λ x. bit at x && bit mask x) → (t || bit at 62) ≡ reads_left a at []
+    pub reads_empty : (n mask : ℕ) → n ≡ length (leaves R) → Marks mask (λ x. ltb x n)
+        → reads_left a at [] ≡ (some 64 (λ x. bit at x && bit mask x) || bit at 62)
     unfolding reads_left
-    readable_is t n mask marks e h =
+    reads_empty n mask e marks =
         let few = few_letters a.trees in
         let count = size_is R in
         let out : (x : ℕ) → 62 ≤ x → (bit at x && bit mask x) ≡ false =
         λ x l. let m = marks x in let k : ltb x n ≡ false = le-ltb x n (omega arith) in grind arith in
         let each : (x : ℕ) → x < 62 → (bit at x && bit mask x) ≡ (bit at x && (leb 0 x && ltb x (0 + size R))) =
         λ x l. let k : n ≡ size R = omega arith in ap (λ b. bit at x && b) (marks x ∙ ap (ltb x) k ∙ from_zero x (size R)) in
-        ap (λ b. b || bit at 62)
-        (h ∙ some_positions (λ x. bit at x && bit mask x) (out 62 (omega arith)) (out 63 (omega arith)) ∙ some_same 62 _ _ each)
-        ∙ sym (positions_tell_the_empty_path R 0 (bit at) (bit at 62)).begun
+        (positions_tell_the_empty_path R 0 (bit at) (bit at 62)).begun
+        ∙ sym (ap (λ b. b || bit at 62)
+        (some_positions (λ x. bit at x && bit mask x) (out 62 (omega arith)) (out 63 (omega arith)) ∙ some_same 62 _ _ each))
 
     -- a last position is below 62
     last_below : (x : ℕ) → 62 ≤ x → last W (size R) x ≡ false
@@ -121,13 +121,13 @@ module _ (a : Automaton) where
         let out : is_some (rest W (size R) x) ≡ false = let s = rest_some W (size R) x in grind (arith, nat_tests) in
         sym (rest_ends W (size R) x) ∙ nothing_ends (rest W (size R) x) out
 
-    pub writable_is : (t : Bool) → t ≡ some 64 (λ x. bit at x && bit a.writes.last x)
-        → (t || (bit at 63 && a.writes.nullable)) ≡ writes_left a at []
+    pub writes_empty : writes_left a at [] ≡ (some 64 (λ x. bit at x && bit a.writes.last x) || (bit at 63 && a.writes.nullable))
     unfolding writes_left
-    writable_is t h =
+    writes_empty =
         let out : (x : ℕ) → 62 ≤ x → (bit at x && bit a.writes.last x) ≡ false =
-        λ x l. let m = a.write_last x in let k = last_below x l in grind arith in
-        let met = h
-        ∙ some_positions (λ x. bit at x && bit a.writes.last x) (out 62 (omega arith)) (out 63 (omega arith))
-        ∙ some_same 62 _ (λ x. bit at x && last W (size R) x) (λ x l. ap (λ b. bit at x && b) (a.write_last x)) in
-        (λ i. met i || (bit at 63 && a.write_nullable i)) ∙ sym (positions_tell_the_empty_path W (size R) (bit at) (bit at 63)).whole
+        λ x l. let m = ap (λ s. s.last x) a.write in let k = last_below x l in grind arith in
+        let met =
+        some_positions (λ x. bit at x && bit a.writes.last x) (out 62 (omega arith)) (out 63 (omega arith))
+        ∙ some_same 62 _ (λ x. bit at x && last W (size R) x) (λ x l. ap (λ b. bit at x && b) (ap (λ s. s.last x) a.write)) in
+        (positions_tell_the_empty_path W (size R) (bit at) (bit at 63)).whole
+        ∙ sym (λ i. met i || (bit at 63 && (a.write i).nullable))

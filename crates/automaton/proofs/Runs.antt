@@ -1,6 +1,5 @@
 -- A pass over the operations of a tree finds what is known of the tree.
-use Rattle.std.proofs.Common.{◌≡◌, ℕ, ◌+◌, ◌<◌, ◌≤◌, Bool, true, false, ◌&&◌, ◌||◌, ltb, List, [], ◌∷◌, ◌++◌, length, get_or, drop, sym, refl, ap, ◌∙◌, append_assoc, append-nil, le_trans, le_refl, add-zero, add_assoc, add-one, arith, drop-cons}
-use mathlib.Core.Bool.{or_assoc, or-false, and-false}
+use Rattle.std.proofs.Common.{◌≡◌, ℕ, ◌+◌, ◌<◌, ◌≤◌, Bool, false, ◌&&◌, ◌||◌, ltb, List, [], ◌∷◌, ◌++◌, length, get_or, drop, sym, refl, ap, ◌∙◌, append_assoc, append-nil, le_trans, le_refl, add-zero, add_assoc, add-one, arith, drop-cons}
 use lib.Seq.{drop-length}
 use Rattle.expression.specs.Expressions.{Expr, empty, letter, alternative, sequence, star}
 use Rattle.expression.specs.Tables.{postfix}
@@ -8,16 +7,9 @@ use Rattle.expression.specs.declared.operation.Operation.{Operation}
 use Rattle.expression.specs.declared.operation.Operation.TheVariants.{Empty, Letter, Alternative, Sequence, Star}
 use Rattle.automaton.specs.Passes.{Summary, Pass, on_last, on_two, step, run}
 use Rattle.automaton.specs.Positions.{size, first, last, follow}
-use Rattle.automaton.specs.Tells.{summary, piled, pass_of, begun}
-use Rattle.automaton.specs.declared.facts.Facts.{Facts}
+use Rattle.automaton.specs.Tells.{summary}
 
 -- ---- operation by operation
-
--- the code begins with an empty pile
-pub begins : (fs : List Facts) (from : ℕ) (follow : List ℕ)
-    → pass_of (record { pile = fs; height = 0; count = from; follow = follow }) ≡ begun from follow
-unfolding piled
-begins fs from follow = refl
 
 -- the next operation
 pub run_next : (os : List Operation) (i : ℕ) (m : Pass) → i < length os
@@ -68,17 +60,13 @@ after e m = record {
 
 -- what the parts link, and what is linked between them
 links_two : (l t a b : Bool) → ((l || (t && a)) || (t && b)) ≡ (l || (t && (a || b)))
-links_two true t a b = refl
-links_two false true a b = refl
-links_two false false a b = refl
+links_two l t a b = grind arith
 
 links_three : (l t a b c : Bool) → (((l || (t && a)) || (t && b)) || (t && c)) ≡ (l || (t && (a || (b || c))))
-links_three true t a b c = refl
-links_three false true a b c = or_assoc a b c
-links_three false false a b c = refl
+links_three l t a b c = grind arith
 
 links_none : (l t : Bool) → l ≡ (l || (t && false))
-links_none l t = sym (ap (λ b. l || b) (and-false t) ∙ or-false l)
+links_none l t = grind arith
 
 -- the operations of two parts, and then one more
 run_parts : (a b : Expr) (o : Operation) (os : List Operation) (m : Pass)

@@ -6,7 +6,7 @@ use Rattle.expression.specs.Expressions.{Letter, Expr, fits}
 use Rattle.expression.specs.Languages.{ends}
 use Rattle.automaton.specs.Positions.{size, first, follow, rest, Labelled, some, left_by, beginning, whole_path, reached}
 use Rattle.automaton.proofs.Lefts.{nothing_remains}
-use Rattle.automaton.proofs.Positions.{first_some, follow_some}
+use Rattle.automaton.proofs.Rests.{first_some, follow_some}
 use Rattle.automaton.proofs.Quotients.{steps_are_quotients}
 use Rattle.automaton.proofs.Sums.{some_same}
 

@@ -9,7 +9,7 @@ use Rattle.expression.specs.Expressions.{Letter, Expr, empty, letter, alternativ
 use Rattle.expression.specs.Languages.{Repeated, more, In, nullable, union, before}
 use Rattle.automaton.specs.Positions.{size, first, last, follow, rest, Labelled}
 use Rattle.expression.proofs.Languages.{Within, Joined, nullable_in, in_nullable, ends_in, union_in, before_in, cond_in, joined_next, repeated_next, some_in}
-use Rattle.automaton.proofs.Positions.{before_some, rest_ends, apart, first_some, follow_some}
+use Rattle.automaton.proofs.Rests.{before_some, rest_ends, apart, first_some, follow_some}
 
 -- ---- sums, and the first name of joined paths
 

@@ -9,6 +9,13 @@ use Rattle.automaton.specs.Bits.{bit}
 use Rattle.automaton.specs.Positions.{size, left_by, beginning, whole_path}
 use Rattle.automaton.specs.declared.automaton.Automaton.{Automaton}
 
+-- the residues that mark both starts, and the start of the read tree alone
+abbrev pub starts : ℕ
+starts = 2 ^ 62 + 2 ^ 63
+
+abbrev pub read_start : ℕ
+read_start = 2 ^ 62
+
 abbrev pub trees_of : Automaton → Trees
 trees_of a = a.trees
 
@@ -37,10 +44,10 @@ ResiduesAreLawful = (a : Automaton) (r : ℕ) (q : Path) → LawfulPaths a r q
 
 -- both starts leave all paths of the two trees, and the start of the read tree alone leaves nothing to be written
 pub record Start (a : Automaton) (q : Path) : Type 0 where
-  pub reads : reads_left a (2 ^ 62 + 2 ^ 63) q ≡ begins (read_tree (trees_of a)) q
-  pub writes : writes_left a (2 ^ 62 + 2 ^ 63) q ≡ accepts (write_tree (trees_of a)) q
-  pub reads_alone : reads_left a (2 ^ 62) q ≡ begins (read_tree (trees_of a)) q
-  pub writes_alone : writes_left a (2 ^ 62) q ≡ false
+  pub reads : reads_left a starts q ≡ begins (read_tree (trees_of a)) q
+  pub writes : writes_left a starts q ≡ accepts (write_tree (trees_of a)) q
+  pub reads_alone : reads_left a read_start q ≡ begins (read_tree (trees_of a)) q
+  pub writes_alone : writes_left a read_start q ≡ false
 
 abbrev pub StartsLeaveAll : Type 0
 StartsLeaveAll = (a : Automaton) (q : Path) → Start a q

@@ -1,5 +1,5 @@
 -- What the masks of the code tell.
-use Rattle.std.specs.Prelude.{◌≡◌, ℕ, zero, suc, Bool, true, List, [], ◌∷◌, slice_index, slice_index_or}
+use Rattle.std.specs.Prelude.{◌≡◌, ℕ, Bool, List, [], slice_index, slice_index_or}
 use Rattle.expression.specs.Expressions.{Letter, Expr}
 use Rattle.expression.specs.Languages.{nullable}
 use Rattle.expression.specs.Tables.{letter_of}
@@ -9,7 +9,6 @@ use Rattle.automaton.specs.Bits.{bit}
 use Rattle.automaton.specs.Passes.{Summary, Pass}
 use Rattle.automaton.specs.Positions.{first, last}
 use Rattle.automaton.specs.declared.facts.Facts.{Facts}
-use Rattle.automaton.specs.declared.pass.state.State.{State}
 
 abbrev pub summary_of : Facts → Summary
 summary_of f = record { nullable = f.nullable; first = bit f.first; last = bit f.last }
@@ -29,18 +28,6 @@ letter_at letters x = letter_of (slice_index_or letters x Any)
 -- the position y may follow the position x, by a table
 abbrev pub link_of : List ℕ → ℕ → ℕ → Bool
 link_of follow x y = bit (slice_index follow x) y
-
--- the facts of the empty tree
-abbrev pub empty_facts : Facts
-empty_facts = record { nullable = true; first = 0; last = 0 }
-
--- the first so many places of an array, as a pile
-unfoldable pub piled : List Facts → ℕ → List Summary
-piled fs zero = []
-piled fs (suc h) = summary_of (slice_index_or fs h empty_facts) ∷ piled fs h
-
-abbrev pub pass_of : State → Pass
-pass_of s = record { pile = piled s.pile s.height; count = s.count; link = link_of s.follow }
 
 -- a pass that begins at a number, with the links made so far
 abbrev pub begun : ℕ → List ℕ → Pass

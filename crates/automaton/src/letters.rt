@@ -4,18 +4,19 @@ ghost use Rattle.expression.specs.Expressions.{fits};
 ghost use Rattle.automaton.specs.Bits.{Marks};
 ghost use Rattle.automaton.specs.Tells.{letter_at};
 
-use crate::bits::{only, union};
+use crate::positions::Positions;
 use expression::letter::Letter;
 
 /// The positions whose letters stand for the name.
-pub(crate) fn matching(letters: &[Letter], name: &[u8]) -> u64
+#[tactic(auto, using(crate::proofs::Masks::bit_of_zero, std::proofs::lemmas::Bool::Decides::nat_tests))]
+pub(crate) fn matching(letters: &[Letter], name: &[u8]) -> Positions
     requires { length letters.now ≤ 62 }
     ensures { Marks result (λ x. nat_lt x (length letters.now) && fits (letter_at letters.now x) name.now) }
 {
-    let mut found = 0;
-    for i in 0..letters.len() {
-        if letters[i].fits(name) {
-            found = union(found, only(i));
+    let mut found = Positions::NONE;
+    for (i, letter) in letters.iter().enumerate() {
+        if letter.fits(name) {
+            found |= Positions::only(i);
         }
     }
     found

@@ -2,9 +2,9 @@
 #![tactic(auto)]
 
 pub mod automaton;
-mod bits;
 mod facts;
 mod letters;
 mod links;
 mod pass;
+pub mod positions;
 pub mod theorems;

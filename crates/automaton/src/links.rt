@@ -5,29 +5,31 @@ ghost use Rattle.automaton.specs.Passes.{linked};
 ghost use Rattle.automaton.specs.Positions.{some};
 ghost use Rattle.automaton.specs.Tells.{link_of};
 
-use crate::bits::{has, union};
-use expression::tables::MAX_LETTERS;
+use crate::positions::Positions;
+use expression::trees::MAX_LETTERS;
 
 /// The positions that may follow one of the marked positions.
-pub(crate) fn followers(follow: &[u64; 62], marked: u64) -> u64
+#[tactic(auto, using(crate::proofs::Masks::bit_of_zero, crate::proofs::Sums::some_zero, crate::proofs::Sums::some_more))]
+pub(crate) fn followers(follow: &[Positions; MAX_LETTERS], marked: Positions) -> Positions
     ensures { Marks result (λ y. some 62 (λ x. bit marked x && link_of follow.now x y)) }
 {
-    let mut all = 0;
-    for i in 0..MAX_LETTERS {
-        if has(marked, i) {
-            all = union(all, follow[i]);
+    let mut all = Positions::NONE;
+    for (i, next) in follow.iter().enumerate() {
+        if marked.has(i) {
+            all |= *next;
         }
     }
     all
 }
 
 /// Lets each position of `to` follow each position of `from`.
-pub(crate) fn link(follow: &mut [u64; 62], from: u64, to: u64)
+#[tactic(auto, using(std::proofs::lemmas::Bool::Decides::nat_tests))]
+pub(crate) fn link(follow: &mut [Positions; MAX_LETTERS], from: Positions, to: Positions)
     ensures { link_of follow.new ≡ linked (bit from) (bit to) (link_of follow.old) }
 {
-    for i in 0..MAX_LETTERS {
-        if has(from, i) {
-            follow[i] = union(follow[i], to);
+    for (i, next) in follow.iter_mut().enumerate() {
+        if from.has(i) {
+            *next |= to;
         }
     }
 }

@@ -1,91 +1,95 @@
 //! One pass over the operations of a tree.
-ghost use Rattle.std.specs.Prelude.{◌≡◌, ◌+◌, ◌<◌, ◌≤◌, length};
+ghost use Rattle.std.specs.Prelude.{◌≡◌, ◌+◌, ◌<◌, ◌≤◌, [], ◌∷◌, ◌++◌, length, MatchOption};
 ghost use Rattle.automaton.specs.Passes.{step, run, top};
-ghost use Rattle.automaton.specs.Tells.{summary_of, link_of, pass_of, begun};
+ghost use Rattle.automaton.specs.Tells.{summary_of, link_of, begun};
 
-use crate::facts::{Facts, alternative, letter, sequence, star};
+use crate::facts::Facts;
 use crate::links::link;
-use crate::pass::state::State;
+use crate::positions::Positions;
+use bounded::row::Row;
 use expression::operation::Operation;
+use expression::trees::{MAX_LETTERS, MAX_TEXT};
 
-pub(crate) mod state;
+/// The facts of the operands, the letters counted, and the positions that may follow each position.
+#[derive(Clone, Copy)]
+struct State {
+    operands: Row<Facts, MAX_TEXT>,
+    count: usize,
+    follow: [Positions; MAX_LETTERS],
+}
+
+/// Takes the last two operands away, if there are two.
+fn pop_two(operands: &mut Row<Facts, MAX_TEXT>) -> Option<(Facts, Facts)>
+    ensures { MatchOption result ((length operands.old.entries < 2) × (operands.new ≡ operands.old)) (λ two. operands.old.entries ≡ operands.new.entries ++ two.0 ∷ two.1 ∷ []) }
+{
+    if operands.len() < 2 {
+        return None;
+    }
+    let right = operands.pop()?;
+    let left = operands.pop()?;
+    Some((left, right))
+}
 
 impl State {
-    /// The facts of the last operand, and those of the empty tree where there is none.
-    fn last(&self) -> Facts
-        requires { self.now.height ≤ 400 }
-        ensures { summary_of result ≡ top (pass_of self.now).pile }
-    {
-        if self.height >= 1 {
-            self.pile[self.height - 1]
-        } else {
-            Facts::EMPTY
-        }
-    }
+    ghost use Rattle.automaton.specs.States.{pass_of};
 
     /// Applies one operation, if it finds its operands.
+    #[tactic(auto, unfolding(crate::specs::Passes::step))]
     fn apply(&mut self, operation: Operation)
-        requires room { self.old.height < 400 }
+        requires room { length self.old.operands.entries < 400 }
         requires few { (step operation (pass_of self.old)).count ≤ 62 }
         ensures made { pass_of self.new ≡ step operation (pass_of self.old) }
-        ensures height { self.new.height ≤ self.old.height + 1 }
+        ensures height { length self.new.operands.entries ≤ length self.old.operands.entries + 1 }
     {
-        match operation {
-            Operation::Empty => {
-                self.pile[self.height] = Facts::EMPTY;
-                self.height += 1;
-            }
+        let made = match operation {
+            Operation::Empty => Facts::EMPTY,
             Operation::Letter => {
-                self.pile[self.height] = letter(self.count);
-                self.height += 1;
+                let letter = Facts::letter(self.count);
                 self.count += 1;
+                letter
             }
             Operation::Alternative => {
-                if self.height >= 2 {
-                    self.pile[self.height - 2] = alternative(
-                        self.pile[self.height - 2],
-                        self.pile[self.height - 1],
-                    );
-                    self.height -= 1;
-                }
+                let Some((left, right)) = pop_two(&mut self.operands) else {
+                    return;
+                };
+                left.alternative(right)
             }
             Operation::Sequence => {
-                if self.height >= 2 {
-                    let left = self.pile[self.height - 2];
-                    let right = self.pile[self.height - 1];
-                    link(&mut self.follow, left.last, right.first);
-                    self.pile[self.height - 2] = sequence(left, right);
-                    self.height -= 1;
-                }
+                let Some((left, right)) = pop_two(&mut self.operands) else {
+                    return;
+                };
+                link(&mut self.follow, left.last, right.first);
+                left.sequence(right)
             }
             Operation::Star => {
-                if self.height >= 1 {
-                    let inner = self.pile[self.height - 1];
-                    link(&mut self.follow, inner.last, inner.first);
-                    self.pile[self.height - 1] = star(inner);
-                }
+                let Some(inner) = self.operands.pop() else {
+                    return;
+                };
+                link(&mut self.follow, inner.last, inner.first);
+                inner.star()
             }
-        }
+        };
+        self.operands.push(made).unwrap();
     }
 }
 
 /// What a pass finds.
-#[derive(Clone, Copy)]
-pub struct Found {
+#[derive(Clone, Copy, PartialEq, Eq, Debug)]
+pub(crate) struct Found {
     pub(crate) facts: Facts,
-    pub(crate) follow: [u64; 62],
+    pub(crate) follow: [Positions; MAX_LETTERS],
 }
 
 /// Passes over the operations of a tree, its positions numbered from `from` on, and adds to the links made so far.
-pub(crate) fn pass(operations: &[Operation], from: usize, follow: [u64; 62]) -> Found
+#[tactic(auto, using(crate::proofs::Piles::top_piled, crate::proofs::Runs::run_next, crate::proofs::Runs::run_end, crate::proofs::Runs::run_count))]
+pub(crate) fn pass(operations: &[Operation], from: usize, follow: [Positions; MAX_LETTERS]) -> Found
     requires short { length operations.now ≤ 400 }
     requires few { (run operations.now (begun from follow)).count ≤ 62 }
     ensures facts { summary_of result.facts ≡ top (run operations.now (begun from follow)).pile }
     ensures follow { link_of result.follow ≡ (run operations.now (begun from follow)).link }
 {
     let mut state = State {
-        pile: [Facts::EMPTY; 400],
-        height: 0,
+        operands: Row::new(Facts::EMPTY),
         count: from,
         follow,
     };
@@ -93,7 +97,7 @@ pub(crate) fn pass(operations: &[Operation], from: usize, follow: [u64; 62]) -> 
         state.apply(*operation);
     }
     Found {
-        facts: state.last(),
+        facts: state.operands.pop().unwrap_or(Facts::EMPTY),
         follow: state.follow,
     }
 }

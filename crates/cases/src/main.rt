@@ -13,7 +13,7 @@ use contract::contract::Contract;
 use contract::depth::Depth;
 use contract::expressions::Expression;
 use contract::path_text::permits_text;
-use expression::texts::TextRefusal;
+use expression::texts::{Text, TextRefusal};
 use expression::trees::Trees;
 use lexer::reader::Reader;
 use lexer::token::{Language, Placed, Token};
@@ -32,22 +32,15 @@ fn digit(b: u8) -> u8 {
 /// The bytes that a field of a line stands for.
 fn bytes_of(heap: Global, field: &str) -> Result<Vec<u8>, AllocError> {
     let mut bytes = Vec::new(heap);
-    if field == "-" {
-        return Ok(bytes);
-    }
-    let mut high = None;
-    for b in field.bytes() {
-        match high {
-            None => high = Some(b),
-            Some(first) => {
-                bytes.push(digit(first).wrapping_mul(16).wrapping_add(digit(b)))?;
-                high = None;
-            }
+    if field != "-" {
+        for pair in field.as_bytes().chunks_exact(2) {
+            bytes.push(digit(pair[0]).wrapping_mul(16).wrapping_add(digit(pair[1])))?;
         }
     }
     Ok(bytes)
 }
 
+// Not `Display` of `Placed`: these lines are this program's own.
 fn token_text(heap: Global, next: Placed) -> Result<String, AllocError> {
     let start = next.start;
     let stop = next.stop;
@@ -69,16 +62,13 @@ fn token_text(heap: Global, next: Placed) -> Result<String, AllocError> {
 
 /// Whether no token comes after this one.
 fn is_last(token: Token) -> bool {
-    match token {
-        Token::End => true,
-        Token::Bad => true,
-        _ => false,
-    }
+    matches!(token, Token::End | Token::Bad)
 }
 
 fn tokens_text(heap: Global, text: &[u8], language: Language) -> Result<String, AllocError> {
     let mut reader = Reader::new(text, language);
     let mut all = String::new(heap);
+    // As many turns as bytes at most: so it ends without a measure.
     for _ in 0..text.len() {
         let next = reader.peek();
         if is_last(next.token) {
@@ -94,16 +84,11 @@ fn tokens_text(heap: Global, text: &[u8], language: Language) -> Result<String, 
 fn reading_text(heap: Global, reading: Result<Trees, TextRefusal>) -> Result<String, AllocError> {
     match reading {
         Ok(trees) => {
-            let reads = trees.read_letters();
-            let writes = trees.write_letters();
+            let reads = trees.letter_count(Text::Read);
+            let writes = trees.letter_count(Text::Write);
             format!(in heap; "letters {reads} {writes}")
         }
-        Err(refusal) => {
-            let number = refusal.reason.number();
-            let text = refusal.text.number();
-            let place = refusal.place;
-            format!(in heap; "contract {number} text {text} at {place}")
-        }
+        Err(refusal) => format!(in heap; "{refusal}"),
     }
 }
 
@@ -119,7 +104,7 @@ fn permission_text<C: Contract>(
             let write = permission.write;
             format!(in heap; "read {read} write {write}")
         }
-        Err(place) => format!(in heap; "no path at {place}"),
+        Err(no_path) => format!(in heap; "{no_path}"),
     }
 }
 
@@ -141,14 +126,6 @@ fn depth_of(numbers: &[u8]) -> Depth {
     }
 }
 
-fn tokens_answer(heap: Global, kind: &str, text: &[u8]) -> Result<String, AllocError> {
-    if kind == "script" {
-        tokens_text(heap, text, Language::Script)
-    } else {
-        tokens_text(heap, text, Language::PathExpression)
-    }
-}
-
 fn answer(heap: Global, line: &str) -> Result<String, AllocError> {
     let mut fields = line.split(' ');
     let kind = fields.next().unwrap_or("");
@@ -157,21 +134,18 @@ fn answer(heap: Global, line: &str) -> Result<String, AllocError> {
     let third = bytes_of(heap, fields.next().unwrap_or("-"))?;
     let fourth = bytes_of(heap, fields.next().unwrap_or("-"))?;
     let fifth = bytes_of(heap, fields.next().unwrap_or("-"))?;
-    if kind == "contract" {
-        return reading_text(heap, Trees::parse(first.as_slice(), second.as_slice()));
-    }
-    if kind == "depth" {
-        return permission_text(heap, &depth_of(second.as_slice()), first.as_slice());
-    }
     let left = expression_of(second.as_slice(), third.as_slice());
-    if kind == "expression" {
-        return permission_text(heap, &left, first.as_slice());
+    match kind {
+        "contract" => reading_text(heap, Trees::parse(first.as_slice(), second.as_slice())),
+        "depth" => permission_text(heap, &depth_of(second.as_slice()), first.as_slice()),
+        "expression" => permission_text(heap, &left, first.as_slice()),
+        "both" => {
+            let right = expression_of(fourth.as_slice(), fifth.as_slice());
+            permission_text(heap, &Both { left, right }, first.as_slice())
+        }
+        "script" => tokens_text(heap, first.as_slice(), Language::Script),
+        _ => tokens_text(heap, first.as_slice(), Language::PathExpression),
     }
-    if kind == "both" {
-        let right = expression_of(fourth.as_slice(), fifth.as_slice());
-        return permission_text(heap, &Both { left, right }, first.as_slice());
-    }
-    tokens_answer(heap, kind, first.as_slice())
 }
 
 fn main(rt: HostRuntime) -> anyhow::Result<()> {

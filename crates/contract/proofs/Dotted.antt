@@ -1,30 +1,30 @@
 -- The law of paths as texts: what `spell` tells of the bytes that it reads, and that it reads the text of each path.
 use Rattle.std.proofs.Common.{◌≡◌, ℕ, suc, ◌+◌, ◌<◌, ◌≤◌, Bool, true, false, ◌&&◌, eqb, ltb, leb, List, [], ◌∷◌, ◌++◌, length, take, sym, refl, ap, ◌∙◌, subst, append_assoc, append-nil, arith, length-append}
-use Rattle.lexer.specs.Classes.{classed, class_of}
+use Rattle.lexer.specs.Classes.{classed, class_of, letters, letters_or_digits}
 use Rattle.lexer.specs.Names.{Name, Path, plain, lawful, all_lawful}
 use Rattle.std.proofs.lemmas.Bool.{and_parts, and_from, both_ways, cond_both, ne_eqb, eqb-true, leb-true, le-leb, ltb-true, lt-ltb}
 use Rattle.contract.specs.PathTexts.{PathText, path, wrong, starting, spell, read_path}
 use Rattle.contract.specs.Dotted.{dotted, TextsAreDottedPaths, WrongTextsAreFirstWrong}
 
 -- a letter or a digit is no dot
-no_dot : (b : ℕ) → classed 2 3 b ≡ true → eqb b 46 ≡ false
+no_dot : (b : ℕ) → classed letters_or_digits b ≡ true → eqb b 46 ≡ false
 unfolding class_of
-no_dot b h = ne_eqb b 46 (λ e. both_ways (classed 2 3 46) refl (subst (λ x. classed 2 3 x ≡ true) e h))
+no_dot b h = ne_eqb b 46 (λ e. both_ways (classed letters_or_digits 46) refl (subst (λ x. classed letters_or_digits x ≡ true) e h))
 
 -- each byte of a plain list is a letter or a digit
-plain_at : (cs : List ℕ) (b : ℕ) (bs : List ℕ) → plain (cs ++ (b ∷ bs)) ≡ true → classed 2 3 b ≡ true
+plain_at : (cs : List ℕ) (b : ℕ) (bs : List ℕ) → plain (cs ++ (b ∷ bs)) ≡ true → classed letters_or_digits b ≡ true
 plain_at [] b bs h = (and_parts _ _ h).0
 plain_at (c ∷ cs) b bs h = plain_at cs b bs (and_parts _ _ h).1
 
 -- what a lawful name is
-lawful_parts : (c : ℕ) (cs : List ℕ) → lawful (c ∷ cs) ≡ true → (classed 2 2 c ≡ true) × (plain cs ≡ true) × (length cs ≤ 23)
+lawful_parts : (c : ℕ) (cs : List ℕ) → lawful (c ∷ cs) ≡ true → (classed letters c ≡ true) × (plain cs ≡ true) × (length cs ≤ 23)
 lawful_parts c cs h =
-    let others = (and_parts (classed 2 2 c) _ h).1 in
+    let others = (and_parts (classed letters c) _ h).1 in
     let parts = and_parts (plain cs) (leb (length cs) 23) others in
-    ((and_parts (classed 2 2 c) _ h).0, parts.0, leb-true (length cs) 23 parts.1)
+    ((and_parts (classed letters c) _ h).0, parts.0, leb-true (length cs) 23 parts.1)
 
 -- a lawful name can go on with each of its bytes
-may_go_on : (c : ℕ) (cs : List ℕ) (b : ℕ) (bs : List ℕ) → lawful (c ∷ (cs ++ (b ∷ bs))) ≡ true → (classed 2 3 b && ltb (length (c ∷ cs)) 24) ≡ true
+may_go_on : (c : ℕ) (cs : List ℕ) (b : ℕ) (bs : List ℕ) → lawful (c ∷ (cs ++ (b ∷ bs))) ≡ true → (classed letters_or_digits b && ltb (length (c ∷ cs)) 24) ≡ true
 may_go_on c cs b bs h =
     let parts = lawful_parts c (cs ++ (b ∷ bs)) h in
     and_from _ _ (plain_at cs b bs parts.1) (lt-ltb (length (c ∷ cs)) 24 (omega (arith, length-append cs (b ∷ bs))))
@@ -67,17 +67,17 @@ reads_dotted n (m ∷ p) at h =
     (λ k. ends_at_dot n k (dotted (m ∷ p)) law ∙ ap (starting n) (reads_dotted m p (k + 1) (and_parts _ _ h).1))
 
 -- letters or digits, and one more
-plain_more : (cs : List ℕ) (b : ℕ) → plain cs ≡ true → classed 2 3 b ≡ true → plain (cs ++ (b ∷ [])) ≡ true
+plain_more : (cs : List ℕ) (b : ℕ) → plain cs ≡ true → classed letters_or_digits b ≡ true → plain (cs ++ (b ∷ [])) ≡ true
 plain_more [] b h k = and_from _ _ k refl
 plain_more (c ∷ cs) b h k =
-    let parts = and_parts (classed 2 3 c) (plain cs) h in
+    let parts = and_parts (classed letters_or_digits c) (plain cs) h in
     and_from _ _ parts.0 (plain_more cs b parts.1 k)
 
 -- a lawful name, and a byte that it can go on with
-lawful_more : (c : ℕ) (cs : List ℕ) (b : ℕ) → lawful (c ∷ cs) ≡ true → (classed 2 3 b && ltb (length (c ∷ cs)) 24) ≡ true → lawful (c ∷ (cs ++ (b ∷ []))) ≡ true
+lawful_more : (c : ℕ) (cs : List ℕ) (b : ℕ) → lawful (c ∷ cs) ≡ true → (classed letters_or_digits b && ltb (length (c ∷ cs)) 24) ≡ true → lawful (c ∷ (cs ++ (b ∷ []))) ≡ true
 lawful_more c cs b h k =
     let parts = lawful_parts c cs h in
-    let fits = and_parts (classed 2 3 b) (ltb (length (c ∷ cs)) 24) k in
+    let fits = and_parts (classed letters_or_digits b) (ltb (length (c ∷ cs)) 24) k in
     let few = ltb-true (length (c ∷ cs)) 24 fits.1 in
     and_from _ _ parts.0
     (and_from _ _ (plain_more cs b parts.1 fits.0) (le-leb (length (cs ++ (b ∷ []))) 23 (omega (arith, length-append cs (b ∷ [])))))
@@ -152,13 +152,13 @@ unfolding spell dotted
 tells [] at [] h = stops at [] [] h (λ l more. absurd (omega arith))
 tells [] at (c ∷ cs) h = (sym (append-nil (c ∷ cs)), and_from _ _ h refl, omega arith)
 tells (b ∷ bs) at [] h =
-    cond_both (classed 2 2 b) (spell (at + 1) (b ∷ []) bs) (wrong at) (Tells at [] (b ∷ bs))
+    cond_both (classed letters b) (spell (at + 1) (b ∷ []) bs) (wrong at) (Tells at [] (b ∷ bs))
     (λ e. goes_on at [] b bs (spell (at + 1) (b ∷ []) bs) (λ more. rw e) (tells bs (at + 1) (b ∷ []) (rw e)))
     (λ e. stops at [] (b ∷ bs) h (λ l more. rw e))
 tells (b ∷ bs) at (c ∷ cs) h =
     cond_both (eqb b 46) (starting (c ∷ cs) (spell (at + 1) [] bs)) _ (Tells at (c ∷ cs) (b ∷ bs))
     (λ e. subst (λ x. Tells at (c ∷ cs) (x ∷ bs) (starting (c ∷ cs) (spell (at + 1) [] bs))) (sym (eqb-true b 46 e)) (past_dot at (c ∷ cs) bs (spell (at + 1) [] bs) h (tells bs (at + 1) [] refl)))
-    (λ e. cond_both (classed 2 3 b && ltb (length (c ∷ cs)) 24) (spell (at + 1) ((c ∷ cs) ++ (b ∷ [])) bs) (wrong at) (Tells at (c ∷ cs) (b ∷ bs))
+    (λ e. cond_both (classed letters_or_digits b && ltb (length (c ∷ cs)) 24) (spell (at + 1) ((c ∷ cs) ++ (b ∷ [])) bs) (wrong at) (Tells at (c ∷ cs) (b ∷ bs))
     (λ k. goes_on at (c ∷ cs) b bs (spell (at + 1) ((c ∷ cs) ++ (b ∷ [])) bs) (λ more. rw (e, k)) (tells bs (at + 1) ((c ∷ cs) ++ (b ∷ [])) (lawful_more c cs b h k)))
     (λ k. stops at (c ∷ cs) (b ∷ bs) h (λ l more. rw (e, k))))
 

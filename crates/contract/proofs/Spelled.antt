@@ -1,6 +1,6 @@
 -- A path as a text, byte by byte.
 use Rattle.std.proofs.Common.{◌≡◌, ℕ, ◌+◌, ◌-◌, ◌<◌, ◌≤◌, true, false, cond, ◌&&◌, eqb, ltb, List, [], ◌∷◌, ◌++◌, length, get_or, take, drop, sym, refl, ap, ◌∙◌, arith, length-drop}
-use Rattle.lexer.specs.Classes.{classed}
+use Rattle.lexer.specs.Classes.{classed, letters, letters_or_digits}
 use Rattle.lexer.specs.Names.{Name}
 use Rattle.std.proofs.lemmas.List.{drop_more, drop_all, get_or-drop, take_more, length-take-le}
 use Rattle.std.proofs.lemmas.Bool.{eq-eqb, ne_eqb, lt-ltb, le-ltb, and_from, and_left, and_right}
@@ -8,7 +8,7 @@ use Rattle.contract.specs.PathTexts.{PathText, path, wrong, starting, spell, rea
 use Rattle.contract.specs.Terms.{Terms, after}
 
 -- a name that is begun, and one byte more, or the end
-in_name : (at : ℕ) (cur : Name) (b : ℕ) (bs : List ℕ) → 1 ≤ length cur → spell at cur (b ∷ bs) ≡ cond (eqb b 46) (starting cur (spell (at + 1) [] bs)) (cond (classed 2 3 b && ltb (length cur) 24) (spell (at + 1) (cur ++ (b ∷ [])) bs) (wrong at))
+in_name : (at : ℕ) (cur : Name) (b : ℕ) (bs : List ℕ) → 1 ≤ length cur → spell at cur (b ∷ bs) ≡ cond (eqb b 46) (starting cur (spell (at + 1) [] bs)) (cond (classed letters_or_digits b && ltb (length cur) 24) (spell (at + 1) (cur ++ (b ∷ [])) bs) (wrong at))
 unfolding spell
 in_name at [] b bs h = absurd (omega arith)
 in_name at (c ∷ cs) b bs h = refl
@@ -49,39 +49,39 @@ module _ (text : List ℕ) (from : ℕ) where
 
   module _ (i : ℕ) (in_text : i < length text) where
     -- a name begins here
-    at_start : from ≡ i → spell i (begun i) (drop i text) ≡ cond (classed 2 2 (get_or text i 0)) (spell (i + 1) (begun (i + 1)) (drop (i + 1) text)) (wrong i)
+    at_start : from ≡ i → spell i (begun i) (drop i text) ≡ cond (classed letters (get_or text i 0)) (spell (i + 1) (begun (i + 1)) (drop (i + 1) text)) (wrong i)
     unfolding spell
     at_start e =
         let none : begun i ≡ [] = ap (λ j. begun j) (sym e) ∙ none_begun in
         let one : begun (i + 1) ≡ get_or text i 0 ∷ [] = begun_more i (omega arith) in_text ∙ ap (λ w. w ++ (get_or text i 0 ∷ [])) none in
-        (λ j. spell i (none j) (drop_more text i 0 in_text j)) ∙ ap (λ w. cond (classed 2 2 (get_or text i 0)) (spell (i + 1) w (drop (i + 1) text)) (wrong i)) (sym one)
+        (λ j. spell i (none j) (drop_more text i 0 in_text j)) ∙ ap (λ w. cond (classed letters (get_or text i 0)) (spell (i + 1) w (drop (i + 1) text)) (wrong i)) (sym one)
 
-    pub starts_name : from ≡ i → classed 2 2 (get_or text i 0) ≡ true → spell i (begun i) (drop i text) ≡ spell (i + 1) (begun (i + 1)) (drop (i + 1) text)
+    pub starts_name : from ≡ i → classed letters (get_or text i 0) ≡ true → spell i (begun i) (drop i text) ≡ spell (i + 1) (begun (i + 1)) (drop (i + 1) text)
     starts_name e h = at_start e ∙ rw h
 
-    pub wrong_start : from ≡ i → classed 2 2 (get_or text i 0) ≡ false → spell i (begun i) (drop i text) ≡ wrong i
+    pub wrong_start : from ≡ i → classed letters (get_or text i 0) ≡ false → spell i (begun i) (drop i text) ≡ wrong i
     wrong_start e h = at_start e ∙ rw h
 
     -- a name goes on here, or ends
     module _ (inside : from < i) where
-      at_byte : spell i (begun i) (drop i text) ≡ cond (eqb (get_or text i 0) 46) (starting (begun i) (spell (i + 1) [] (drop (i + 1) text))) (cond (classed 2 3 (get_or text i 0) && ltb (i - from) 24) (spell (i + 1) (begun (i + 1)) (drop (i + 1) text)) (wrong i))
+      at_byte : spell i (begun i) (drop i text) ≡ cond (eqb (get_or text i 0) 46) (starting (begun i) (spell (i + 1) [] (drop (i + 1) text))) (cond (classed letters_or_digits (get_or text i 0) && ltb (i - from) 24) (spell (i + 1) (begun (i + 1)) (drop (i + 1) text)) (wrong i))
       at_byte =
           let long = begun_length i (omega arith) (omega arith) in
           ap (spell i (begun i)) (drop_more text i 0 in_text) ∙ in_name i (begun i) (get_or text i 0) (drop (i + 1) text) (omega arith)
-          ∙ (λ j. cond (eqb (get_or text i 0) 46) (starting (begun i) (spell (i + 1) [] (drop (i + 1) text))) (cond (classed 2 3 (get_or text i 0) && ltb (long j) 24) (spell (i + 1) (sym (begun_more i (omega arith) in_text) j) (drop (i + 1) text)) (wrong i)))
+          ∙ (λ j. cond (eqb (get_or text i 0) 46) (starting (begun i) (spell (i + 1) [] (drop (i + 1) text))) (cond (classed letters_or_digits (get_or text i 0) && ltb (long j) 24) (spell (i + 1) (sym (begun_more i (omega arith) in_text) j) (drop (i + 1) text)) (wrong i)))
 
       pub ends_name : get_or text i 0 ≡ 46 → spell i (begun i) (drop i text) ≡ starting (begun i) (spell (i + 1) (take (i + 1 - (i + 1)) (drop (i + 1) text)) (drop (i + 1) text))
       ends_name e =
           let none : i + 1 - (i + 1) ≡ 0 = omega arith in
           at_byte ∙ rw (eq-eqb (get_or text i 0) 46 e) (ap (λ n. starting (begun i) (spell (i + 1) (take n (drop (i + 1) text)) (drop (i + 1) text))) (sym none))
 
-      pub goes_on : (get_or text i 0 ≡ 46 → ⊥) → classed 2 3 (get_or text i 0) ≡ true → i - from < 24 → spell i (begun i) (drop i text) ≡ spell (i + 1) (begun (i + 1)) (drop (i + 1) text)
+      pub goes_on : (get_or text i 0 ≡ 46 → ⊥) → classed letters_or_digits (get_or text i 0) ≡ true → i - from < 24 → spell i (begun i) (drop i text) ≡ spell (i + 1) (begun (i + 1)) (drop (i + 1) text)
       goes_on no_dot h few = at_byte ∙ rw (ne_eqb (get_or text i 0) 46 no_dot, and_from _ _ h (lt-ltb (i - from) 24 few))
 
-      wrong_if : (get_or text i 0 ≡ 46 → ⊥) → (classed 2 3 (get_or text i 0) && ltb (i - from) 24) ≡ false → spell i (begun i) (drop i text) ≡ wrong i
+      wrong_if : (get_or text i 0 ≡ 46 → ⊥) → (classed letters_or_digits (get_or text i 0) && ltb (i - from) 24) ≡ false → spell i (begun i) (drop i text) ≡ wrong i
       wrong_if no_dot h = at_byte ∙ rw (ne_eqb (get_or text i 0) 46 no_dot, h)
 
-      pub wrong_byte : (get_or text i 0 ≡ 46 → ⊥) → classed 2 3 (get_or text i 0) ≡ false → spell i (begun i) (drop i text) ≡ wrong i
+      pub wrong_byte : (get_or text i 0 ≡ 46 → ⊥) → classed letters_or_digits (get_or text i 0) ≡ false → spell i (begun i) (drop i text) ≡ wrong i
       wrong_byte no_dot h = wrong_if no_dot (and_left _ _ h)
 
       pub too_long : (get_or text i 0 ≡ 46 → ⊥) → 24 ≤ i - from → spell i (begun i) (drop i text) ≡ wrong i

@@ -1,5 +1,5 @@
 -- What a contract by two path expressions permits.
-use Rattle.std.specs.Prelude.{◌≡◌, ℕ, Bool, true, false, cond, ◌↔◌, [], ◌∷◌, ◌++◌, Some, None, Ok, Err, Option, Result}
+use Rattle.std.specs.Prelude.{◌≡◌, ℕ, Bool, true, false, ◌↔◌, [], ◌∷◌, ◌++◌, Some, None, Ok, Err, Option, Result}
 use Rattle.automaton.specs.Residues.{reads_left, writes_left}
 use Rattle.expression.specs.Expressions.{Expr}
 use Rattle.expression.specs.Languages.{In, begins, accepts}
@@ -15,13 +15,9 @@ use Rattle.contract.specs.declared.expressions.Expression.{Expression}
 abbrev pub expression_terms : Expression → ℕ → Terms
 expression_terms c r = record { reads = reads_left c.automaton r; writes = writes_left c.automaton r }
 
--- both starts, or that of reading alone where no texts were read
-abbrev pub opening : Expression → ℕ
-opening c = cond c.given 0xc000_0000_0000_0000 0x4000_0000_0000_0000
-
 -- from the start
 abbrev pub start_terms : Expression → Terms
-start_terms c = expression_terms c (opening c)
+start_terms c = expression_terms c c.start
 
 -- the beginnings of the read text's paths are readable, and the write text's paths writable
 abbrev pub by_trees : Expr → Expr → Terms

@@ -1,6 +1,8 @@
 pub mod Terms
 pub mod Depths
 pub mod Paths
+pub mod Permissions
+pub mod NoPaths
 pub mod PathTexts
 pub mod ExpressionTerms
 pub mod Dotted

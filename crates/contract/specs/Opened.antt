@@ -1,15 +1,15 @@
 -- What a contract by path expressions permits from its start, and the laws that it keeps.
-use Rattle.std.specs.Prelude.{◌≡◌, ℕ, Bool, true, false, cond, [], ◌∷◌, is_some, None, refl}
+use Rattle.std.specs.Prelude.{◌≡◌, ℕ, ◌+◌, ◌^◌, true, [], ◌∷◌, is_some, None, refl}
 use Rattle.std.proofs.Common.{ap, ◌∙◌}
-use Rattle.automaton.specs.Residues.{trees_of, reads_left}
+use Rattle.automaton.specs.Residues.{trees_of, reads_left, writes_left}
 use Rattle.automaton.specs.declared.automaton.Automaton.{Automaton}
 use Rattle.automaton.proofs.Laws.{beginnings_are_left, residues_are_lawful, starts_leave_all}
 use Rattle.expression.specs.Expressions.{empty}
 use Rattle.expression.specs.Held.{read_tree, write_tree}
 use Rattle.expression.specs.Languages.{derivative, remaining, begins}
 use Rattle.lexer.specs.Names.{Path}
-use Rattle.contract.specs.ExpressionTerms.{expression_terms, opening, start_terms, by_trees, is_empty, only_empty}
-use Rattle.contract.specs.Terms.{Orderly}
+use Rattle.contract.specs.ExpressionTerms.{expression_terms, by_trees, is_empty, only_empty}
+use Rattle.contract.specs.Terms.{Terms, Orderly}
 use Rattle.contract.specs.declared.expressions.Expression.{Expression}
 use Rattle.contract.specs.Quotients.{same_terms}
 
@@ -20,9 +20,13 @@ orderly c r = record {
   writable_lawful = λ p. (residues_are_lawful c.automaton r p).writes;
 }
 
+-- what a residue leaves
+abbrev left : Automaton → ℕ → Terms
+left a r = record { reads = reads_left a r; writes = writes_left a r }
+
 -- texts were read: what their trees permit
-pub given_terms : (a : Automaton) → start_terms (record { automaton = a; given = true }) ≡ by_trees (read_tree (trees_of a)) (write_tree (trees_of a))
-given_terms a = same_terms _ _ (λ q. (starts_leave_all a q).reads) (λ q. (starts_leave_all a q).writes)
+pub given_terms : (a : Automaton) (r : ℕ) → r ≡ 2 ^ 62 + 2 ^ 63 → left a r ≡ by_trees (read_tree (trees_of a)) (write_tree (trees_of a))
+given_terms a r is = ap (left a) is ∙ same_terms _ _ (λ q. (starts_leave_all a q).reads) (λ q. (starts_leave_all a q).writes)
 
 -- nothing remains after nothing
 nothing_left : (q : Path) → remaining None q ≡ None
@@ -36,13 +40,15 @@ begins_empty [] = refl
 begins_empty (p ∷ q) = ap is_some (nothing_left q)
 
 -- no texts were read: the empty path, for reading
-pub new_terms : (a : Automaton) → read_tree (trees_of a) ≡ empty → start_terms (record { automaton = a; given = false }) ≡ only_empty
-new_terms a e = same_terms _ _ (λ q. (starts_leave_all a q).reads_alone ∙ ap (λ d. begins d q) e ∙ begins_empty q) (λ q. (starts_leave_all a q).writes_alone)
+pub new_terms : (a : Automaton) (r : ℕ) → r ≡ 2 ^ 62 → read_tree (trees_of a) ≡ empty → left a r ≡ only_empty
+new_terms a r is e =
+    ap (left a) is ∙ same_terms _ _ (λ q. (starts_leave_all a q).reads_alone ∙ ap (λ d. begins d q) e ∙ begins_empty q) (λ q. (starts_leave_all a q).writes_alone)
 
-pub opened : (c : Expression) → (expression_terms c (opening c)).reads [] ≡ true
+-- each start leaves the empty path to be read
+pub starts_open : (a : Automaton) (r : ℕ) → r ≡ 2 ^ 62 + 2 ^ 63 → reads_left a r [] ≡ true
 unfolding remaining
-opened c = by c.given
-  where
-    by : (b : Bool) → reads_left c.automaton (cond b 0xc000_0000_0000_0000 0x4000_0000_0000_0000) [] ≡ true
-    by true = (starts_leave_all c.automaton []).reads
-    by false = (starts_leave_all c.automaton []).reads_alone
+starts_open a r is = ap (λ n. reads_left a n []) is ∙ (starts_leave_all a []).reads
+
+pub read_start_opens : (a : Automaton) (r : ℕ) → r ≡ 2 ^ 62 → reads_left a r [] ≡ true
+unfolding remaining
+read_start_opens a r is = ap (λ n. reads_left a n []) is ∙ (starts_leave_all a []).reads_alone

@@ -22,6 +22,8 @@ pub trait Contract {
     fn step(&self, at: Self::Residue, name: &[u8]) -> Self::Residue
         ensures { terms self.now result ≡ after name.now (terms self.now at) };
 
+    // Two calls, and not one that is told which: the kinds answer them by different rules.
+
     /// Whether the empty path is readable.
     fn readable(&self, at: Self::Residue) -> bool
         ensures { result ≡ (terms self.now at).reads [] };

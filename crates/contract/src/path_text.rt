@@ -1,30 +1,34 @@
 //! What a contract permits of a path that is given as a text.
 ghost use Rattle.contract.specs.PathTexts.{read_path, permitted};
-ghost use Rattle.std.specs.Prelude.{◌≡◌, []};
+ghost use Rattle.contract.specs.NoPaths.{told};
+ghost use Rattle.std.specs.Prelude.{◌≡◌, Some};
 
 use crate::contract::Contract;
-use lexer::class::{DIGIT, LETTER, is_classed};
+pub use crate::permits::Permission;
+use crate::permits::permission_at;
+use lexer::class::{Class, is_classed};
 use lexer::name::MAX_NAME;
+use std::error::Error;
+use std::fmt;
 
-/// Whether a path may be read, and whether it may be written.
+/// A text that is no path: the place of the first byte that makes it none.
 #[derive(Clone, Copy, PartialEq, Eq, Debug)]
-pub struct Permission {
-    pub read: bool,
-    pub write: bool,
+pub struct NoPath {
+    pub place: usize,
 }
 
-/// What is permitted of the empty path at a residue.
-fn permission_at<C: Contract>(contract: &C, at: C::Residue) -> Permission
-    ensures { result ≡ record { read = (C.terms contract.now at).reads []; write = (C.terms contract.now at).writes [] } }
-{
-    Permission {
-        read: contract.readable(at),
-        write: contract.writable(at),
+impl fmt::Display for NoPath {
+    ghost output = { λ no_path. Some (told no_path) };
+
+    fn fmt<W: fmt::Write>(&self, f: &mut fmt::Formatter<W>) -> fmt::Result {
+        write!(f, "no path at {}", self.place)
     }
 }
 
-/// What the contract permits of the path that the text spells, or the place of the first byte that makes it no path.
-pub fn permits_text<C: Contract>(contract: &C, text: &[u8]) -> Result<Permission, usize>
+impl Error for NoPath {}
+
+/// What the contract permits of the path that the text spells.
+pub fn permits_text<C: Contract>(contract: &C, text: &[u8]) -> Result<Permission, NoPath>
     ensures { result ≡ permitted (C.terms contract.now (C.starts contract.now)) (read_path text.now) }
 {
     let mut at = contract.start();
@@ -32,21 +36,20 @@ pub fn permits_text<C: Contract>(contract: &C, text: &[u8]) -> Result<Permission
         return Ok(permission_at(contract, at));
     }
     let mut from = 0;
-    for i in 0..text.len() {
-        let b = text[i];
-        if i == from {
-            if !is_classed(b, LETTER, LETTER) {
-                return Err(i);
+    for (place, b) in text.iter().enumerate() {
+        if place == from {
+            if !is_classed(*b, &[Class::Letter]) {
+                return Err(NoPath { place });
             }
-        } else if b == b'.' {
-            at = contract.step(at, &text[from..i]);
-            from = i + 1;
-        } else if !is_classed(b, LETTER, DIGIT) || i - from >= MAX_NAME {
-            return Err(i);
+        } else if *b == b'.' {
+            at = contract.step(at, &text[from..place]);
+            from = place + 1;
+        } else if !is_classed(*b, &[Class::Letter, Class::Digit]) || place - from >= MAX_NAME {
+            return Err(NoPath { place });
         }
     }
     if from >= text.len() {
-        return Err(text.len());
+        return Err(NoPath { place: text.len() });
     }
-    Ok(permission_at(contract, contract.step(at, &text[from..text.len()])))
+    Ok(permission_at(contract, contract.step(at, &text[from..])))
 }

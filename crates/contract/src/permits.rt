@@ -1,10 +1,28 @@
 //! What a contract permits of a whole path.
 ghost use Rattle.contract.specs.Paths.{path_of};
+ghost use Rattle.contract.specs.Permissions.{permission};
 ghost use Rattle.contract.specs.Terms.{along};
-ghost use Rattle.std.specs.Prelude.{◌≡◌};
+ghost use Rattle.std.specs.Prelude.{◌≡◌, []};
 
 use crate::contract::Contract;
 use lexer::name::Name;
+
+/// Whether a path may be read, and whether it may be written.
+#[derive(Clone, Copy, PartialEq, Eq, Debug)]
+pub struct Permission {
+    pub read: bool,
+    pub write: bool,
+}
+
+/// What is permitted of the empty path at a residue.
+pub(crate) fn permission_at<C: Contract>(contract: &C, at: C::Residue) -> Permission
+    ensures { result ≡ permission (C.terms contract.now at) [] }
+{
+    Permission {
+        read: contract.readable(at),
+        write: contract.writable(at),
+    }
+}
 
 /// The residue after a path, from the start.
 pub fn residue_after<C: Contract>(contract: &C, path: &[Name]) -> C::Residue
@@ -17,16 +35,9 @@ pub fn residue_after<C: Contract>(contract: &C, path: &[Name]) -> C::Residue
     at
 }
 
-/// Whether the path may be read.
-pub fn may_read<C: Contract>(contract: &C, path: &[Name]) -> bool
-    ensures { result ≡ (C.terms contract.now (C.starts contract.now)).reads (path_of path.now) }
+/// What the contract permits of a path.
+pub fn permits<C: Contract>(contract: &C, path: &[Name]) -> Permission
+    ensures { result ≡ permission (C.terms contract.now (C.starts contract.now)) (path_of path.now) }
 {
-    contract.readable(residue_after(contract, path))
-}
-
-/// Whether the path may be written.
-pub fn may_write<C: Contract>(contract: &C, path: &[Name]) -> bool
-    ensures { result ≡ (C.terms contract.now (C.starts contract.now)).writes (path_of path.now) }
-{
-    contract.writable(residue_after(contract, path))
+    permission_at(contract, residue_after(contract, path))
 }

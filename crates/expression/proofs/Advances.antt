@@ -1,13 +1,12 @@
 -- Which tokens a state of the reading lets pass, and which states let the same tokens pass.
 use Rattle.std.proofs.Common.{◌≡◌, ℕ, ◌+◌, Bool, true, false, cond, List, [], ◌∷◌, length, Some, None, Option, sym, refl, ap, ◌∙◌}
-use Rattle.lexer.specs.Readers.{text_of, place_of, language_of, Moved}
-use Rattle.lexer.specs.Tokens.{Lexeme, name, number, sign, equals, end, bad, lex, Tokens, token, then, tokens, lexed_of}
-use Rattle.lexer.specs.declared.token.Placed.{Placed}
+use Rattle.lexer.specs.Readers.{text_of, place_of, language_of, tokens_from, next_of, next_place, past_next, Moved}
+use Rattle.lexer.specs.Tokens.{Lexeme, name, number, sign, equals, end, bad, Tokens, token, then, tokens, is_the_sign, reason_at}
 use Rattle.lexer.specs.declared.reader.Reader.{Reader}
 use Rattle.lexer.specs.declared.refusal.Reason.{Reason}
+use Rattle.lexer.proofs.Moves.{moved_tokens}
 use Rattle.lexer.proofs.Rows.{tokens_step}
 use Rattle.expression.specs.Expressions.{Expr, alternative, sequence}
-use Rattle.expression.specs.Parsing.{tokens_from, next_of, next_place, past_next, is_the_sign, reason_at}
 use Rattle.expression.specs.Reading.{Level, blank, Here, opened, wanting, holding, starred, State, state, advance, finish, passes, weight, step, read, refused}
 
 -- a choice between equals
@@ -18,21 +17,6 @@ cond_same false x = refl
 -- reading on from a reader is reading its next token, and then those after it
 pub next_first : (r : Reader) (n : ℕ) (s : State) → read n s (tokens_from r) ≡ read n s (then (next_of r) (next_place r) (tokens (language_of r) (text_of r) (past_next r)))
 next_first r n s = ap (read n s) (tokens_step (language_of r) (text_of r) (place_of r) r.within)
-
--- the tokens of a reader that moved
-pub moved_tokens : {r q : Reader} {at : ℕ} → Moved r q at → tokens_from q ≡ tokens (language_of r) (text_of r) at
-moved_tokens m = λ i. tokens (m.language i) (m.text i) (m.place i)
-
--- a reader that took its next token stands after it
-pub taken : {r q : Reader} (p : Placed) → lexed_of p ≡ lex (language_of r) (text_of r) (place_of r) → Moved r q p.stop → Moved r q (past_next r)
-taken p is m = record { text = m.text; place = m.place ∙ ap (λ x. x.stop) is; language = m.language }
-
--- a reader that stayed where it was has the same next token
-pub moved_next : {r q : Reader} → Moved r q (place_of r) → next_of q ≡ next_of r
-moved_next m = λ i. (lex (m.language i) (m.text i) (m.place i)).lexeme
-
-pub moved_place : {r q : Reader} → Moved r q (place_of r) → next_place q ≡ next_place r
-moved_place m = λ i. (lex (m.language i) (m.text i) (m.place i)).start
 
 -- what comes of the next token, where it is one
 module _ (r : Reader) (n : ℕ) (s : State) (t : Lexeme) (is : next_of r ≡ t) (proper : (at : ℕ) (ts : Tokens) → then t at ts ≡ token t at ts) where

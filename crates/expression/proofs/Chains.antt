@@ -1,20 +1,19 @@
 -- Parts of the grammar that read another part again and again, with a sign between: what a turn of their loop keeps, and
 -- what each way out gives.
-use Rattle.std.proofs.Common.{◌≡◌, ℕ, ◌+◌, ◌≤◌, true, false, List, [], ◌∷◌, ◌++◌, length, Some, None, Ok, Err, sym, refl, ap, ◌∙◌, append_assoc, append-nil, arith}
-use Rattle.lexer.specs.Readers.{text_of, place_of, language_of}
-use Rattle.lexer.specs.Tokens.{Lexeme, sign}
+use Rattle.std.proofs.Common.{◌≡◌, ℕ, ◌+◌, ◌≤◌, true, false, List, [], ◌∷◌, ◌++◌, length, Some, None, Ok, Err, sym, refl, ap, ◌∙◌, subst, Result, append_assoc, append-nil, arith, length-append}
+use Rattle.lexer.specs.Readers.{text_of, place_of, language_of, tokens_from, next_of, Accepted}
+use Rattle.lexer.specs.Tokens.{Lexeme, sign, is_the_sign}
 use Rattle.lexer.specs.declared.reader.Reader.{Reader}
 use Rattle.lexer.specs.declared.refusal.Refusal.{Refusal}
+use Rattle.lexer.proofs.Moves.{moved_tokens, moved_next}
 use Rattle.std.proofs.lemmas.Bool.{and_from, not_from_false, not-true}
 use Rattle.expression.specs.Expressions.{Letter, Expr, alternative, sequence, star}
-use Rattle.expression.specs.Parsing.{tokens_from, next_of, is_the_sign, Accepted, Part, base_part, item_part, sequence_part, alternative_part, Made, Parsed, wanting_at}
+use Rattle.expression.specs.Parsing.{Part, base_part, item_part, sequence_part, alternative_part, Made, Parsed, wanting_at}
 use Rattle.expression.specs.Reading.{Level, wanting, holding, starred, state, advance, passes, weight, read}
-use Rattle.expression.specs.Tables.{operations_of, letters_of, postfix, leaves}
+use Rattle.expression.specs.Tables.{postfix, leaves}
 use Rattle.expression.specs.declared.operation.Operation.{Operation}
 use Rattle.expression.specs.declared.operation.Operation.TheVariants.{Alternative, Sequence, Star}
-use Rattle.expression.specs.declared.tables.Letters.{Letters}
-use Rattle.expression.specs.declared.tables.Postfix.{Postfix}
-use Rattle.expression.proofs.Advances.{moved_tokens, moved_next, settled, joins_up, unites}
+use Rattle.expression.proofs.Advances.{settled, joins_up, unites}
 use Rattle.expression.proofs.Operands.{sign_passed}
 
 -- a part that reads `sub` again and again, with a sign between
@@ -34,22 +33,22 @@ pub record Chain {P Q : Type 0} (part : Part P) (sub : Part Q) (between : ℕ) (
   pub ending : (t : Lexeme) → sub.ends t ≡ true → is_the_sign between t ≡ false → part.ends t ≡ true
 
 -- a loop began at r, and is at s: a tree that stood at r has grown
-pub record Going {P Q : Type 0} {part : Part P} {sub : Part Q} {between : ℕ} {operation : Operation} (c : Chain part sub between operation) (depth : ℕ) (r s : Reader) (o u : Postfix) (l m : Letters) : Type 0 where
+pub record Going {P Q : Type 0} {part : Part P} {sub : Part Q} {between : ℕ} {operation : Operation} (c : Chain part sub between operation) (depth : ℕ) (r s : Reader) (o u : List Operation) (l m : List Letter) : Type 0 where
   pub text : text_of s ≡ text_of r
   pub language : language_of s ≡ language_of r
   pub on : place_of r ≤ place_of s
-  pub room : u.used + place_of r ≤ o.used + place_of s
+  pub room : length u + place_of r ≤ length o + place_of s
   pub ended : sub.ends (next_of r) ≡ true → sub.ends (next_of s) ≡ true
   pub grow : Expr → Expr
   pub new_operations : List Operation
   pub new_letters : List Letter
-  pub operations : operations_of u ≡ operations_of o ++ new_operations
-  pub letters : letters_of m ≡ letters_of l ++ new_letters
+  pub operations : u ≡ o ++ new_operations
+  pub letters : m ≡ l ++ new_letters
   pub grown_operations : (d : Expr) → postfix (grow d) ≡ postfix d ++ new_operations
   pub grown_letters : (d : Expr) → leaves (grow d) ≡ leaves d ++ new_letters
-  pub goes : (p : P) (outer : List Level) (d : Expr) → length outer ≡ depth → read l.used (state outer (part.level p) (starred d)) (tokens_from r) ≡ read m.used (state outer (part.level p) (starred (grow d))) (tokens_from s)
+  pub goes : (p : P) (outer : List Level) (d : Expr) → length outer ≡ depth → read (length l) (state outer (part.level p) (starred d)) (tokens_from r) ≡ read (length m) (state outer (part.level p) (starred (grow d))) (tokens_from s)
 
-pub set_out : {P Q : Type 0} {part : Part P} {sub : Part Q} {between : ℕ} {operation : Operation} (c : Chain part sub between operation) (depth : ℕ) (r : Reader) (o : Postfix) (l : Letters) → Going c depth r r o o l l
+pub set_out : {P Q : Type 0} {part : Part P} {sub : Part Q} {between : ℕ} {operation : Operation} (c : Chain part sub between operation) (depth : ℕ) (r : Reader) (o : List Operation) (l : List Letter) → Going c depth r r o o l l
 set_out c depth r o l = record {
   text = refl;
   language = refl;
@@ -75,12 +74,13 @@ module _ {P Q : Type 0} {part : Part P} {sub : Part Q} {between : ℕ} {operatio
   turn : {s s1 : Reader} (n : ℕ) (p : P) (outer : List Level) (d : Expr) → Accepted between s s1 true → read n (state outer (part.level p) (starred d)) (tokens_from s) ≡ read n (state outer (sub.level (c.more p d)) wanting) (tokens_from s1)
   turn n p outer d a = sign_passed between n _ _ a.0 (c.advances p outer d) (c.free (length outer) n) c.weightless a.1
 
-  pub again : {depth : ℕ} {r s s1 s2 : Reader} {o u u2 u3 : Postfix} {l m m2 : Letters} → Going c depth r s o u l m → Accepted between s s1 true → Parsed sub depth s1 s2 u u2 m m2 (Ok tt) → operations_of u3 ≡ operations_of u2 ++ (operation ∷ []) → u3.used ≡ u2.used + 1 → Going c depth r s2 o u3 l m2
-  again {depth} {r} {s} {s1} {s2} {o} {u} {u2} {u3} {l} {m} {m2} go a said pushed used =
+  pub again : {depth : ℕ} {r s s1 s2 : Reader} {o u u2 u3 : List Operation} {l m m2 : List Letter} → Going c depth r s o u l m → Accepted between s s1 true → Parsed sub depth s1 s2 u u2 m m2 (Ok tt) → u3 ≡ u2 ++ (operation ∷ []) → Going c depth r s2 o u3 l m2
+  again {depth} {r} {s} {s1} {s2} {o} {u} {u2} {u3} {l} {m} {m2} go a said pushed =
       let made : Made sub depth s1 s2 u u2 m m2 = said.said in
       let ahead = a.2 in
       let further = made.on in
       let space = made.room in
+      let grown : length u3 ≡ length u2 + 1 = ap length pushed ∙ length-append u2 (operation ∷ []) in
       let new = postfix made.tree ++ (operation ∷ []) in
       record {
         text = said.text ∙ a.1.text ∙ go.text;
@@ -91,32 +91,32 @@ module _ {P Q : Type 0} {part : Part P} {sub : Part Q} {between : ℕ} {operatio
         grow = λ d. c.make (go.grow d) made.tree;
         new_operations = go.new_operations ++ new;
         new_letters = go.new_letters ++ leaves made.tree;
-        operations = twice (operations_of o) go.new_operations new go.operations (twice (operations_of u) (postfix made.tree) (operation ∷ []) made.operations pushed);
-        letters = twice (letters_of l) go.new_letters (leaves made.tree) go.letters made.letters;
+        operations = twice o go.new_operations new go.operations (twice u (postfix made.tree) (operation ∷ []) made.operations pushed);
+        letters = twice l go.new_letters (leaves made.tree) go.letters made.letters;
         grown_operations = λ d. twice (postfix d) go.new_operations new (go.grown_operations d) (c.made_postfix (go.grow d) made.tree);
         grown_letters = λ d. twice (leaves d) go.new_letters (leaves made.tree) (go.grown_letters d) (c.made_leaves (go.grow d) made.tree);
         goes = λ p outer d many.
-            go.goes p outer d many ∙ turn m.used p outer (go.grow d) a ∙ made.goes (c.more p (go.grow d)) outer many
-            ∙ ap (λ h. read m2.used (state outer (sub.level (c.more p (go.grow d))) h) (tokens_from s2)) (c.sub_after made.tree)
-            ∙ c.regroups s2 m2.used outer p (go.grow d) made.tree made.ended;
+            go.goes p outer d many ∙ turn (length m) p outer (go.grow d) a ∙ made.goes (c.more p (go.grow d)) outer many
+            ∙ ap (λ h. read (length m2) (state outer (sub.level (c.more p (go.grow d))) h) (tokens_from s2)) (c.sub_after made.tree)
+            ∙ c.regroups s2 (length m2) outer p (go.grow d) made.tree made.ended;
       }
 
-  module _ {depth : ℕ} {r0 r s : Reader} {o0 o u : Postfix} {l0 l m : Letters} (begun : Parsed sub depth r0 r o0 o l0 l (Ok tt)) (go : Going c depth r s o u l m) where
+  module _ {depth : ℕ} {r0 r s : Reader} {o0 o u : List Operation} {l0 l m : List Letter} (begun : Parsed sub depth r0 r o0 o l0 l (Ok tt)) (go : Going c depth r s o u l m) where
     made0 : Made sub depth r0 r o0 o l0 l
     made0 = begun.said
 
     -- up to where the loop is
-    comes : (p : P) (outer : List Level) → length outer ≡ depth → wanting_at (part.level p) outer l0 r0 ≡ read m.used (state outer (part.level p) (starred (go.grow made0.tree))) (tokens_from s)
+    comes : (p : P) (outer : List Level) → length outer ≡ depth → wanting_at (part.level p) outer (length l0) r0 ≡ read (length m) (state outer (part.level p) (starred (go.grow made0.tree))) (tokens_from s)
     comes p outer many =
-        sym (ap (λ v. wanting_at v outer l0 r0) (c.first_level p)) ∙ made0.goes (c.first p) outer many
-        ∙ (λ i. read l.used (state outer (c.first_level p i) (c.sub_after made0.tree i)) (tokens_from r))
+        sym (ap (λ v. wanting_at v outer (length l0) r0) (c.first_level p)) ∙ made0.goes (c.first p) outer many
+        ∙ (λ i. read (length l) (state outer (c.first_level p i) (c.sub_after made0.tree i)) (tokens_from r))
         ∙ go.goes p outer made0.tree many
 
-    pub breaks : {s1 s2 : Reader} {u2 : Postfix} {m2 : Letters} {x : Refusal} → Accepted between s s1 true → Parsed sub depth s1 s2 u u2 m m2 (Err x) → Parsed part depth r0 s2 o0 u2 l0 m2 (Err x)
+    pub breaks : {s1 s2 : Reader} {u2 : List Operation} {m2 : List Letter} {x : Refusal} → Accepted between s s1 true → Parsed sub depth s1 s2 u u2 m m2 (Err x) → Parsed part depth r0 s2 o0 u2 l0 m2 (Err x)
     breaks a said = record {
       text = said.text ∙ a.1.text ∙ go.text ∙ begun.text;
       language = said.language ∙ a.1.language ∙ go.language ∙ begun.language;
-      said = λ p outer many. comes p outer many ∙ turn m.used p outer _ a ∙ said.said (c.more p _) outer many;
+      said = λ p outer many. comes p outer many ∙ turn (length m) p outer _ a ∙ said.said (c.more p _) outer many;
     }
 
     pub finishes : {s1 : Reader} → Accepted between s s1 false → Parsed part depth r0 s1 o0 u l0 m (Ok tt)
@@ -133,12 +133,12 @@ module _ {P Q : Type 0} {part : Part P} {sub : Part Q} {between : ℕ} {operatio
             tree = go.grow made0.tree;
             on = omega arith;
             room = omega arith;
-            operations = twice (operations_of o0) (postfix made0.tree) go.new_operations made0.operations go.operations ∙ ap (λ w. operations_of o0 ++ w) (sym (go.grown_operations made0.tree));
-            letters = twice (letters_of l0) (leaves made0.tree) go.new_letters made0.letters go.letters ∙ ap (λ w. letters_of l0 ++ w) (sym (go.grown_letters made0.tree));
+            operations = twice o0 (postfix made0.tree) go.new_operations made0.operations go.operations ∙ ap (λ w. o0 ++ w) (sym (go.grown_operations made0.tree));
+            letters = twice l0 (leaves made0.tree) go.new_letters made0.letters go.letters ∙ ap (λ w. l0 ++ w) (sym (go.grown_letters made0.tree));
             ended = ap part.ends (moved_next a.1) ∙ c.ending (next_of s) (go.ended made0.ended) a.0;
             goes = λ p outer many.
                 comes p outer many
-                ∙ (λ i. read m.used (state outer (part.level p) (sym (c.part_after (go.grow made0.tree)) i)) (sym (moved_tokens a.1) i));
+                ∙ (λ i. read (length m) (state outer (part.level p) (sym (c.part_after (go.grow made0.tree)) i)) (sym (moved_tokens a.1) i));
           };
         }
 
@@ -181,11 +181,12 @@ sequences = record {
 }
 
 -- an item is a base, and maybe a `*`
-module _ {depth : ℕ} {r s : Reader} {o u : Postfix} {l m : Letters} where
-  pub item_starred : {s1 : Reader} {u2 : Postfix} → Parsed base_part depth r s o u l m (Ok tt) → Accepted 42 s s1 true → operations_of u2 ≡ operations_of u ++ (Star ∷ []) → u2.used ≡ u.used + 1 → Parsed item_part depth r s1 o u2 l m (Ok tt)
+module _ {depth : ℕ} {r s : Reader} {o u : List Operation} {l m : List Letter} where
+  pub item_starred : {s1 : Reader} {u2 : List Operation} → Parsed base_part depth r s o u l m (Ok tt) → Accepted 42 s s1 true → u2 ≡ u ++ (Star ∷ []) → Parsed item_part depth r s1 o u2 l m (Ok tt)
   unfolding advance passes postfix leaves
-  item_starred a b pushed used =
+  item_starred {u2 = u2} a b pushed =
       let made : Made base_part depth r s o u l m = a.said in
+      let grown : length u2 ≡ length u + 1 = ap length pushed ∙ length-append u (Star ∷ []) in
       let ahead = b.2 in
       let further = made.on in
       let space = made.room in
@@ -196,12 +197,12 @@ module _ {depth : ℕ} {r s : Reader} {o u : Postfix} {l m : Letters} where
           tree = star made.tree;
           on = omega arith;
           room = omega arith;
-          operations = twice (operations_of o) (postfix made.tree) (Star ∷ []) made.operations pushed;
+          operations = twice o (postfix made.tree) (Star ∷ []) made.operations pushed;
           letters = made.letters;
           ended = refl;
           goes = λ level outer many.
               made.goes level outer many
-              ∙ sign_passed 42 m.used (state outer level (holding made.tree)) (state outer level (starred (star made.tree))) b.0 refl refl refl b.1;
+              ∙ sign_passed 42 (length m) (state outer level (holding made.tree)) (state outer level (starred (star made.tree))) b.0 refl refl refl b.1;
         };
       }
 
@@ -222,7 +223,11 @@ module _ {depth : ℕ} {r s : Reader} {o u : Postfix} {l m : Letters} where
           letters = made.letters;
           ended = refl;
           goes = λ level outer many.
-              made.goes level outer many ∙ settled s m.used outer level made.tree b.0
-              ∙ ap (read m.used (state outer level (starred made.tree))) (sym (moved_tokens b.1));
+              made.goes level outer many ∙ settled s (length m) outer level made.tree b.0
+              ∙ ap (read (length m) (state outer level (starred made.tree))) (sym (moved_tokens b.1));
         };
       }
+
+-- what is said at some depth holds at the same depth, told otherwise
+pub at_depth : {P : Type 0} {part : Part P} {d e : ℕ} {r s : Reader} {o u : List Operation} {l m : List Letter} {x : Result (Unit {0}) Refusal} → d ≡ e → Parsed part d r s o u l m x → Parsed part e r s o u l m x
+at_depth {part = part} {r = r} {s} {o} {u} {l} {m} {x} e p = subst (λ k. Parsed part k r s o u l m x) e p

@@ -13,3 +13,4 @@ pub mod WholeTexts
 pub mod Formed
 pub mod Rebuilt
 pub mod Tabled
+pub mod Written

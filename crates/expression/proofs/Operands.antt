@@ -1,32 +1,23 @@
 -- What a base of the grammar gives: a letter, or a bracket.
-use Rattle.std.proofs.Common.{◌≡◌, ℕ, suc, ◌+◌, ◌<◌, ◌≤◌, Bool, true, false, cond, eqb, leb, List, [], ◌∷◌, ◌++◌, length, Some, None, Ok, Err, sym, refl, ap, ◌∙◌, subst, append-nil, add-zero, add-one, arith}
-use Rattle.lexer.specs.Readers.{text_of, place_of, language_of, Moved}
-use Rattle.lexer.specs.Tokens.{Lexeme, name, number, sign, equals, end, bad, lex, Tokens, token, then, lexed_of, lexeme_of}
+use Rattle.std.proofs.Common.{◌≡◌, ℕ, suc, ◌+◌, ◌<◌, ◌≤◌, Bool, true, false, cond, eqb, leb, List, [], ◌∷◌, ◌++◌, length, Some, None, Ok, Err, sym, refl, ap, ◌∙◌, subst, append-nil, add-zero, add-one, arith, length-append}
+use Rattle.lexer.specs.Readers.{text_of, place_of, language_of, tokens_from, next_of, next_place, past_next, Moved, Accepted}
+use Rattle.lexer.specs.Tokens.{Lexeme, name, number, sign, equals, end, bad, lex, Tokens, token, then, lexed_of, lexeme_of, is_the_sign, reason_at}
 use Rattle.lexer.specs.declared.token.Placed.{Placed}
 use Rattle.lexer.specs.declared.token.Token.{Token}
 use Rattle.lexer.specs.declared.token.Token.TheVariants.{Name, Number, Sign, Equals, End, Bad}
 use Rattle.lexer.specs.declared.reader.Reader.{Reader}
 use Rattle.lexer.specs.declared.refusal.Reason.TheVariants.{Deep, Many}
 use Rattle.lexer.specs.declared.refusal.Refusal.{Refusal}
+use Rattle.lexer.proofs.Moves.{moved_tokens, moved_next, moved_place, sign_is}
 use Rattle.lexer.proofs.Rows.{Takes, found}
 use Rattle.std.proofs.lemmas.Bool.{eqb-true, le-leb, lt-leb, ne_eqb, and_parts, not-true}
 use Rattle.expression.specs.Expressions.{Letter, any, named, empty, letter}
-use Rattle.expression.specs.Parsing.{tokens_from, next_of, next_place, past_next, is_the_sign, letter_at, reason_at, Accepted, base_part, alternative_part, Made, Parsed}
+use Rattle.expression.specs.Parsing.{letter_at, base_part, alternative_part, Made, Parsed}
 use Rattle.expression.specs.Reading.{Level, blank, opened, wanting, holding, starred, State, state, advance, opens, passes, weight, read, refused}
-use Rattle.expression.specs.Tables.{operations_of, letters_of, postfix, leaves}
+use Rattle.expression.specs.Tables.{postfix, leaves}
+use Rattle.expression.specs.declared.operation.Operation.{Operation}
 use Rattle.expression.specs.declared.operation.Operation.TheVariants as operation
-use Rattle.expression.specs.declared.tables.Letters.{Letters}
-use Rattle.expression.specs.declared.tables.Postfix.{Postfix}
-use Rattle.expression.proofs.Advances.{passed, limited, refuses, moved_tokens, moved_next, moved_place, entered, stuck_starred, stuck_wanting, no_end_wanting}
-
--- a token that is the sign
-pub sign_is : (b : ℕ) (t : Lexeme) → is_the_sign b t ≡ true → t ≡ sign b
-sign_is b (name s) h = let z : ◌≡◌ {A = ℕ} 0 1 = cc in absurd (omega arith)
-sign_is b (number n) h = let z : ◌≡◌ {A = ℕ} 0 1 = cc in absurd (omega arith)
-sign_is b (sign c) h = ap sign (eqb-true c b h)
-sign_is b equals h = let z : ◌≡◌ {A = ℕ} 0 1 = cc in absurd (omega arith)
-sign_is b end h = let z : ◌≡◌ {A = ℕ} 0 1 = cc in absurd (omega arith)
-sign_is b bad h = let z : ◌≡◌ {A = ℕ} 0 1 = cc in absurd (omega arith)
+use Rattle.expression.proofs.Advances.{passed, limited, refuses, entered, stuck_starred, stuck_wanting, no_end_wanting}
 
 -- a sign that counts nothing is passed
 pub sign_passed : (b : ℕ) {r q : Reader} (n : ℕ) (s s2 : State) → is_the_sign b (next_of r) ≡ true → advance (sign b) s ≡ Some s2 → passes (sign b) (length s.outer) n ≡ None → weight (sign b) ≡ 0 → Moved r q (past_next r) → read n s (tokens_from r) ≡ read n s2 (tokens_from q)
@@ -70,10 +61,12 @@ module _ {r q : Reader} {x : Letter} (is : letter_at (next_of r) ≡ Some x) (mo
   known : Lettered (next_of r) x
   known = lettered (next_of r) x is
 
-  pub letter_read : {o u : Postfix} {l m : Letters} (depth : ℕ) → l.used < 62 → letters_of m ≡ letters_of l ++ (x ∷ []) → m.used ≡ l.used + 1 → operations_of u ≡ operations_of o ++ (operation.Letter ∷ []) → u.used ≡ o.used + 1 → Parsed base_part depth r q o u l m (Ok tt)
+  pub letter_read : {o u : List Operation} {l m : List Letter} (depth : ℕ) → length l < 62 → m ≡ l ++ (x ∷ []) → u ≡ o ++ (operation.Letter ∷ []) → Parsed base_part depth r q o u l m (Ok tt)
   unfolding postfix leaves
-  letter_read {l = l} depth few letters count operations used =
+  letter_read {o} {u} {l} {m} depth few letters operations =
       let at = moved.place in
+      let grown : length u ≡ length o + 1 = ap length operations ∙ length-append o (operation.Letter ∷ []) in
+      let count : length m ≡ length l + 1 = ap length letters ∙ length-append l (x ∷ []) in
       let on : place_of r < past_next r = known.takes _ _ (found (language_of r) (text_of r) (place_of r) r.within).0 in
       record {
         text = moved.text;
@@ -86,19 +79,19 @@ module _ {r q : Reader} {x : Letter} (is : letter_at (next_of r) ≡ Some x) (mo
           letters = letters;
           ended = refl;
           goes = λ level outer _.
-              passed r l.used (state outer level wanting) (next_of r) refl known.proper q (state outer level (holding (letter x))) (known.advances outer level)
-              (passes_letter (next_of r) x known (length outer) l.used ∙ ap (λ b. cond b (Some Many) None) (lt-leb 62 l.used few)) moved
-              ∙ ap (λ k. read k (state outer level (holding (letter x))) (tokens_from q)) (ap (λ k. l.used + k) known.weighs ∙ sym count);
+              passed r (length l) (state outer level wanting) (next_of r) refl known.proper q (state outer level (holding (letter x))) (known.advances outer level)
+              (passes_letter (next_of r) x known (length outer) (length l) ∙ ap (λ b. cond b (Some Many) None) (lt-leb 62 (length l) few)) moved
+              ∙ ap (λ k. read k (state outer level (holding (letter x))) (tokens_from q)) (ap (λ k. length l + k) known.weighs ∙ sym count);
         };
       }
 
-  pub letter_refused : {o u : Postfix} {l m : Letters} {y : Refusal} (depth : ℕ) → 62 ≤ l.used → y.reason ≡ Many → y.place ≡ next_place r → Parsed base_part depth r q o u l m (Err y)
+  pub letter_refused : {o u : List Operation} {l m : List Letter} {y : Refusal} (depth : ℕ) → 62 ≤ length l → y.reason ≡ Many → y.place ≡ next_place r → Parsed base_part depth r q o u l m (Err y)
   letter_refused {l = l} depth full reason place = record {
     text = moved.text;
     language = moved.language;
     said = λ level outer _.
-        limited r l.used (state outer level wanting) (next_of r) refl known.proper (state outer level (holding (letter x))) Many (known.advances outer level)
-        (passes_letter (next_of r) x known (length outer) l.used ∙ ap (λ b. cond b (Some Many) None) (le-leb 62 l.used full))
+        limited r (length l) (state outer level wanting) (next_of r) refl known.proper (state outer level (holding (letter x))) Many (known.advances outer level)
+        (passes_letter (next_of r) x known (length outer) (length l) ∙ ap (λ b. cond b (Some Many) None) (le-leb 62 (length l) full))
         ∙ (λ i. refused (sym reason i) (sym place i));
   }
 
@@ -120,7 +113,7 @@ other End h k = record { no_name = λ w e. let z : ◌≡◌ {A = ℕ} 0 1 = cc 
 other Bad h k = record { no_name = λ w e. let z : ◌≡◌ {A = ℕ} 0 1 = cc in omega arith; no_any = refl; no_bracket = refl }
 
 -- p is the next token of r
-module _ {r : Reader} (p : Placed) (is : lexed_of p ≡ lex (language_of r) (text_of r) (place_of r)) {o : Postfix} {l : Letters} {y : Refusal} (depth : ℕ) (reason : y.reason ≡ reason_at (lexeme_of p.token)) (place : y.place ≡ p.start) where
+module _ {r : Reader} (p : Placed) (is : lexed_of p ≡ lex (language_of r) (text_of r) (place_of r)) {o : List Operation} {l : List Letter} {y : Refusal} (depth : ℕ) (reason : y.reason ≡ reason_at (lexeme_of p.token)) (place : y.place ≡ p.start) where
   refused_at : Other (lexeme_of p.token) → Parsed base_part depth r r o o l l (Err y)
   refused_at h =
       let k : Other (next_of r) = subst Other (ap (λ x. x.lexeme) is) h in
@@ -128,7 +121,7 @@ module _ {r : Reader} (p : Placed) (is : lexed_of p ≡ lex (language_of r) (tex
         text = refl;
         language = refl;
         said = λ level outer _.
-            refuses r l.used (state outer level wanting) (stuck_wanting (next_of r) outer level k.no_name k.no_any k.no_bracket) (no_end_wanting outer level)
+            refuses r (length l) (state outer level wanting) (stuck_wanting (next_of r) outer level k.no_name k.no_any k.no_bracket) (no_end_wanting outer level)
             ∙ (λ i. refused ((ap (λ x. reason_at x.lexeme) (sym is) ∙ sym reason) i) ((ap (λ x. x.start) (sym is) ∙ sym place) i));
       }
 
@@ -146,13 +139,13 @@ module _ {r q : Reader} (is : next_of r ≡ sign 40) (moved : Moved r q (past_ne
       let taken : place_of r < past_next r = subst (λ t. Takes t (place_of r) (past_next r)) is (found (language_of r) (text_of r) (place_of r) r.within).0 in
       omega arith
 
-  pub too_deep : {depth : ℕ} {o u : Postfix} {l m : Letters} {y : Refusal} → 16 ≤ depth → y.reason ≡ Deep → y.place ≡ next_place r → Parsed base_part depth r q o u l m (Err y)
+  pub too_deep : {depth : ℕ} {o u : List Operation} {l m : List Letter} {y : Refusal} → 16 ≤ depth → y.reason ≡ Deep → y.place ≡ next_place r → Parsed base_part depth r q o u l m (Err y)
   unfolding advance passes
   too_deep {l = l} deep reason place = record {
     text = moved.text;
     language = moved.language;
     said = λ level outer many.
-        limited r l.used (state outer level wanting) (sign 40) is (λ _ _. refl) (state (level ∷ outer) blank opened) Deep refl
+        limited r (length l) (state outer level wanting) (sign 40) is (λ _ _. refl) (state (level ∷ outer) blank opened) Deep refl
         (ap (λ b. cond b (Some Deep) None) (le-leb 16 (length outer) (omega arith)))
         ∙ (λ i. refused (sym reason i) (sym place i));
   }
@@ -166,10 +159,11 @@ module _ {r q : Reader} (is : next_of r ≡ sign 40) (moved : Moved r q (past_ne
         (ap (λ b. cond b (Some Deep) None) (lt-leb 16 (length outer) (omega arith))) moved
         ∙ ap (λ k. read k (state (level ∷ outer) blank opened) (tokens_from q)) (add-zero n)
 
-    pub nothing_read : {s : Reader} {o u : Postfix} {l : Letters} → Accepted 41 q s true → operations_of u ≡ operations_of o ++ (operation.Empty ∷ []) → u.used ≡ o.used + 1 → Parsed base_part depth r s o u l l (Ok tt)
+    pub nothing_read : {s : Reader} {o u : List Operation} {l : List Letter} → Accepted 41 q s true → u ≡ o ++ (operation.Empty ∷ []) → Parsed base_part depth r s o u l l (Ok tt)
     unfolding advance passes postfix leaves
-    nothing_read {s} {o} {u} {l} a operations used =
+    nothing_read {s} {o} {u} {l} a operations =
         let ahead = a.2 in
+        let grown : length u ≡ length o + 1 = ap length operations ∙ length-append o (operation.Empty ∷ []) in
         record {
           text = a.1.text ∙ moved.text;
           language = a.1.language ∙ moved.language;
@@ -178,9 +172,9 @@ module _ {r q : Reader} (is : next_of r ≡ sign 40) (moved : Moved r q (past_ne
             on = omega (arith, on);
             room = omega (arith, on);
             operations = operations;
-            letters = sym (append-nil (letters_of l));
+            letters = sym (append-nil l);
             ended = refl;
-            goes = λ level outer many. inside l.used level outer many ∙ sign_passed 41 l.used (state (level ∷ outer) blank opened) (state outer level (holding empty)) a.0 refl refl refl a.1;
+            goes = λ level outer many. inside (length l) level outer many ∙ sign_passed 41 (length l) (state (level ∷ outer) blank opened) (state outer level (holding empty)) a.0 refl refl refl a.1;
           };
         }
 
@@ -193,19 +187,19 @@ module _ {r q : Reader} (is : next_of r ≡ sign 40) (moved : Moved r q (past_ne
       deeper : (level : Level) (outer : List Level) → length outer ≡ depth → length (level ∷ outer) ≡ depth + 1
       deeper level outer many = rw add-one (ap suc many)
 
-      pub inner_refused : {s : Reader} {o u : Postfix} {l m : Letters} {y : Refusal} → Parsed alternative_part (depth + 1) q1 s o u l m (Err y) → Parsed base_part depth r s o u l m (Err y)
+      pub inner_refused : {s : Reader} {o u : List Operation} {l m : List Letter} {y : Refusal} → Parsed alternative_part (depth + 1) q1 s o u l m (Err y) → Parsed base_part depth r s o u l m (Err y)
       inner_refused {l = l} p = record {
         text = p.text ∙ a.1.text ∙ moved.text;
         language = p.language ∙ a.1.language ∙ moved.language;
-        said = λ level outer many. entering l.used level outer many ∙ p.said tt (level ∷ outer) (deeper level outer many);
+        said = λ level outer many. entering (length l) level outer many ∙ p.said tt (level ∷ outer) (deeper level outer many);
       }
 
-      module _ {s : Reader} {o u : Postfix} {l m : Letters} (p : Parsed alternative_part (depth + 1) q1 s o u l m (Ok tt)) where
+      module _ {s : Reader} {o u : List Operation} {l m : List Letter} (p : Parsed alternative_part (depth + 1) q1 s o u l m (Ok tt)) where
         made : Made alternative_part (depth + 1) q1 s o u l m
         made = p.said
 
-        reaching : (level : Level) (outer : List Level) → length outer ≡ depth → read l.used (state outer level wanting) (tokens_from r) ≡ read m.used (state (level ∷ outer) blank (starred made.tree)) (tokens_from s)
-        reaching level outer many = entering l.used level outer many ∙ made.goes tt (level ∷ outer) (deeper level outer many)
+        reaching : (level : Level) (outer : List Level) → length outer ≡ depth → read (length l) (state outer level wanting) (tokens_from r) ≡ read (length m) (state (level ∷ outer) blank (starred made.tree)) (tokens_from s)
+        reaching level outer many = entering (length l) level outer many ∙ made.goes tt (level ∷ outer) (deeper level outer many)
 
         pub closed_read : {s1 : Reader} → Accepted 41 s s1 true → Parsed base_part depth r s1 o u l m (Ok tt)
         unfolding advance passes
@@ -224,7 +218,7 @@ module _ {r q : Reader} (is : next_of r ≡ sign 40) (moved : Moved r q (past_ne
                 operations = made.operations;
                 letters = made.letters;
                 ended = refl;
-                goes = λ level outer many. reaching level outer many ∙ sign_passed 41 m.used (state (level ∷ outer) blank (starred made.tree)) (state outer level (holding made.tree)) b.0 refl refl refl b.1;
+                goes = λ level outer many. reaching level outer many ∙ sign_passed 41 (length m) (state (level ∷ outer) blank (starred made.tree)) (state outer level (holding made.tree)) b.0 refl refl refl b.1;
               };
             }
 
@@ -236,7 +230,7 @@ module _ {r q : Reader} (is : next_of r ≡ sign 40) (moved : Moved r q (past_ne
               language = language ∙ b.1.language ∙ p.language ∙ a.1.language ∙ moved.language;
               said = λ level outer many.
                   reaching level outer many
-                  ∙ refuses s m.used (state (level ∷ outer) blank (starred made.tree))
+                  ∙ refuses s (length m) (state (level ∷ outer) blank (starred made.tree))
                   (stuck_starred (next_of s) (level ∷ outer) blank made.tree b.0 (not-true _ left.0) (not-true _ left.1)) refl
                   ∙ (λ i. refused ((ap reason_at (sym (moved_next b.1)) ∙ sym reason) i) ((sym (moved_place b.1) ∙ sym place) i));
             }

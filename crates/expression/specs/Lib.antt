@@ -6,3 +6,4 @@ pub mod Tables
 pub mod Parsing
 pub mod Texts
 pub mod Held
+pub mod Steps

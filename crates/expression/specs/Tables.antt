@@ -1,25 +1,21 @@
 -- Trees as operations in postfix order and a row of letters.
-use Rattle.std.specs.Prelude.{ℕ, ◌+◌, ◌-◌, Bool, ◌&&◌, List, [], ◌∷◌, ◌++◌, map, take, ◌==◌, nat_le}
+use Rattle.std.specs.Prelude.{ℕ, ◌+◌, ◌-◌, Bool, ◌&&◌, List, [], ◌∷◌, ◌++◌, map, ◌==◌, nat_le}
+use Rattle.bounded.specs.Rows.{Row}
 use Rattle.lexer.specs.Spelled.{spelled}
 use Rattle.expression.specs.Expressions.{Letter, any, named, Expr, empty, letter, alternative, sequence, star}
 use Rattle.expression.specs.declared.letter.Letter.{Letter as Held}
 use Rattle.expression.specs.declared.letter.Letter.TheVariants.{Any, Named}
 use Rattle.expression.specs.declared.operation.Operation.{Operation}
 use Rattle.expression.specs.declared.operation.Operation.TheVariants as operation
-use Rattle.expression.specs.declared.tables.Letters.{Letters}
-use Rattle.expression.specs.declared.tables.Postfix.{Postfix}
 
 -- the letter that the code holds
 abbrev pub letter_of : Held → Letter
 letter_of Any = any
 letter_of (Named n) = named (spelled n)
 
--- what a table holds
-abbrev pub operations_of : Postfix → List Operation
-operations_of t = take t.used t.operations
-
-abbrev pub letters_of : Letters → List Letter
-letters_of t = map letter_of (take t.used t.table)
+-- the letters that a row holds
+abbrev pub letters_of : Row Held → List Letter
+letters_of r = map letter_of r.entries
 
 -- the operations of a tree: those of its parts, and then its own
 unfoldable pub postfix : Expr → List Operation
@@ -61,7 +57,3 @@ formed (operation.Letter ∷ os) letters height = nat_le 1 letters && formed os 
 formed (operation.Alternative ∷ os) letters height = nat_le 2 height && formed os letters (height - 1)
 formed (operation.Sequence ∷ os) letters height = nat_le 2 height && formed os letters (height - 1)
 formed (operation.Star ∷ os) letters height = nat_le 1 height && formed os letters height
-
--- the tree that a table's operations make of letters
-abbrev pub built : Postfix → List Letter → Expr
-built o ls = build (operations_of o) ls []

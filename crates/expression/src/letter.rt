@@ -3,8 +3,7 @@ ghost use Rattle.std.specs.Prelude.{◌≡◌};
 ghost use Rattle.expression.specs.Expressions.{fits};
 ghost use Rattle.expression.specs.Tables.{letter_of};
 
-use lexer::name::Name;
-use lexer::name::methods::is_lawful;
+use lexer::name::{Name, is_lawful};
 
 /// A letter stands for paths of one name.
 #[derive(Clone, Copy)]

@@ -4,7 +4,6 @@
 pub mod letter;
 pub mod operation;
 pub mod parser;
-pub mod tables;
 pub mod texts;
 pub mod theorems;
 pub mod trees;

@@ -1,204 +1,152 @@
-//! Path expressions, read from a text into the tables.
-ghost use Rattle.std.specs.Prelude.{◌≡◌, ℕ, ◌≤◌, length, Some};
-ghost use Rattle.expression.specs.Parsing.{Accepted, Parsed, TextRead, Fits, reason_at, letter_at, next_of, base_part, item_part, sequence_part, alternative_part};
+//! Reading the text of a path expression into operations and letters.
+ghost use Rattle.std.specs.Prelude.{◌≡◌, ◌<◌, ◌≤◌, length, Some};
+ghost use Rattle.lexer.specs.Readers.{place_of, next_of};
+ghost use Rattle.lexer.specs.Tokens.{sign};
+ghost use Rattle.expression.specs.Parsing.{TextRead, Fits, letter_at, base_part, item_part, sequence_part, alternative_part};
 ghost use Rattle.expression.specs.Tables.{letter_of};
-ghost use Rattle.lexer.specs.Tokens.{lexeme_of, sign};
 
 use crate::letter::Letter;
 use crate::operation::Operation;
-use crate::tables::{Letters, MAX_OPEN, Postfix};
+use crate::trees::{Letters, MAX_OPEN, Operations};
 use lexer::name::Name;
 use lexer::reader::Reader;
 use lexer::refusal::{Reason, Refusal};
-use lexer::token::{Language, Placed, Token};
+use lexer::token::{Language, Token};
 
-/// The refusal of a token that cannot come where it stands.
-fn misplaced(next: Placed) -> Refusal
-    ensures reason { result.reason ≡ reason_at (lexeme_of next.entry.token) }
-    ensures place { result.place ≡ next.entry.start }
-{
-    let reason = match next.token {
-        Token::Bad => Reason::Token,
-        _ => Reason::Grammar,
-    };
-    Refusal {
-        reason,
-        place: next.start,
-    }
-}
-
-/// Passes the next token if it is this sign.
-fn accept(reader: &mut Reader, sign: u8) -> bool
-    ensures { Accepted sign reader.old reader.new result }
-{
-    let next = reader.peek();
-    match next.token {
-        Token::Sign(b) => {
-            if b != sign {
-                return false;
-            }
-            let _ = reader.take();
-            true
-        }
-        _ => false,
-    }
-}
-
-/// Passes the next token, which is this letter, and writes it down, unless there are too many.
-fn read_letter(
-    reader: &mut Reader,
-    out: &mut Postfix,
-    letters: &mut Letters,
-    letter: Letter,
-) -> Result<(), Refusal>
-    requires fits { Fits reader.old out.old }
-    requires next { letter_at (next_of reader.old) ≡ Some (letter_of letter) }
-    ensures { (depth : ℕ) → Parsed base_part depth reader.old reader.new out.old out.new letters.old letters.new result }
-{
-    let next = reader.take();
-    if !letters.push(letter) {
-        return Err(Refusal {
-            reason: Reason::Many,
-            place: next.start,
-        });
-    }
-    out.push(Operation::Letter);
-    Ok(())
-}
-
-/// Reads a bracket, whose opening sign is the next token.
-#[cycle(grammar)]
-fn bracket(
-    reader: &mut Reader,
-    out: &mut Postfix,
-    letters: &mut Letters,
+/// Goes through a text and writes down the operations and the letters of its tree; so many brackets are open.
+#[derive(Drop)]
+struct Parser<'a> {
+    reader: Reader<'a>,
+    operations: Operations,
+    letters: Letters,
     depth: usize,
-) -> Result<(), Refusal>
-    requires fits { Fits reader.old out.old }
-    requires shallow { depth ≤ 16 }
-    requires next { next_of reader.old ≡ sign 40 }
-    ensures { Parsed base_part depth reader.old reader.new out.old out.new letters.old letters.new result }
-{
-    let open = reader.take();
-    if depth >= MAX_OPEN {
-        return Err(Refusal {
-            reason: Reason::Deep,
-            place: open.start,
-        });
+    ghost fits: { Fits reader operations.entries },
+    ghost shallow: { depth ≤ 16 },
+}
+
+impl<'a> Parser<'a> {
+    ghost use Rattle.expression.specs.Steps.{Reads, Emits};
+
+    /// Writes down an operation, for which a byte was read.
+    fn emit(&mut self, operation: Operation)
+        requires { length self.old.operations.entries < place_of self.old.reader }
+        ensures { Emits operation self.old self.new }
+    {
+        let _ = self.operations.push(operation);
     }
-    if accept(reader, b')') {
-        out.push(Operation::Empty);
-        return Ok(());
-    }
-    alternative(reader, out, letters, depth + 1)?;
-    if accept(reader, b')') {
+
+    /// Passes the next token, which is this letter, and writes it down, unless there are too many.
+    fn letter(&mut self, letter: Letter) -> Result<(), Refusal>
+        requires next { letter_at (next_of self.old.reader) ≡ Some (letter_of letter) }
+        ensures { Reads base_part self.old self.new result }
+    {
+        let next = self.reader.take();
+        if self.letters.push(letter).is_err() {
+            return Err(next.refused(Reason::Many));
+        }
+        self.emit(Operation::Letter);
         Ok(())
-    } else {
-        Err(misplaced(reader.peek()))
     }
-}
 
-/// base = name | "?" | "(" [ alternative ] ")"
-#[cycle(grammar)]
-fn base(
-    reader: &mut Reader,
-    out: &mut Postfix,
-    letters: &mut Letters,
-    depth: usize,
-) -> Result<(), Refusal>
-    requires fits { Fits reader.old out.old }
-    requires shallow { depth ≤ 16 }
-    ensures { Parsed base_part depth reader.old reader.new out.old out.new letters.old letters.new result }
-{
-    let next = reader.peek();
-    match next.token {
-        Token::Name(bytes) => {
-            let name = Name::new(bytes).unwrap();
-            read_letter(reader, out, letters, Letter::Named(name))
+    /// Reads a bracket, whose opening sign is the next token.
+    #[cycle(grammar)]
+    fn bracket(&mut self) -> Result<(), Refusal>
+        requires next { next_of self.old.reader ≡ sign 40 }
+        ensures { Reads base_part self.old self.new result }
+    {
+        let opening = self.reader.take();
+        if self.depth >= MAX_OPEN {
+            return Err(opening.refused(Reason::Deep));
         }
-        Token::Sign(b) => {
-            if b == b'?' {
-                return read_letter(reader, out, letters, Letter::Any);
-            }
-            if b == b'(' {
-                return bracket(reader, out, letters, depth);
-            }
-            Err(misplaced(next))
+        if self.reader.accept(b')') {
+            self.emit(Operation::Empty);
+            return Ok(());
         }
-        _ => Err(misplaced(next)),
+        self.depth += 1;
+        let inner = self.alternative();
+        self.depth -= 1;
+        inner?;
+        if self.reader.accept(b')') {
+            Ok(())
+        } else {
+            Err(self.reader.peek().misplaced())
+        }
     }
-}
 
-/// item = base [ "*" ]
-#[cycle(grammar)]
-fn item(
-    reader: &mut Reader,
-    out: &mut Postfix,
-    letters: &mut Letters,
-    depth: usize,
-) -> Result<(), Refusal>
-    requires fits { Fits reader.old out.old }
-    requires shallow { depth ≤ 16 }
-    ensures { Parsed item_part depth reader.old reader.new out.old out.new letters.old letters.new result }
-{
-    base(reader, out, letters, depth)?;
-    if accept(reader, b'*') {
-        out.push(Operation::Star);
+    /// base = name | "?" | "(" [ alternative ] ")"
+    #[cycle(grammar)]
+    fn base(&mut self) -> Result<(), Refusal>
+        ensures { Reads base_part self.old self.new result }
+    {
+        let next = self.reader.peek();
+        match next.token {
+            Token::Name(bytes) => {
+                let name = Name::new(bytes).unwrap();
+                self.letter(Letter::Named(name))
+            }
+            Token::Sign(b) if b == b'?' => self.letter(Letter::Any),
+            Token::Sign(b) if b == b'(' => self.bracket(),
+            _ => Err(next.misplaced()),
+        }
     }
-    Ok(())
-}
 
-/// sequence = item { "." item }
-#[cycle(grammar)]
-fn sequence(
-    reader: &mut Reader,
-    out: &mut Postfix,
-    letters: &mut Letters,
-    depth: usize,
-) -> Result<(), Refusal>
-    requires fits { Fits reader.old out.old }
-    requires shallow { depth ≤ 16 }
-    ensures { Parsed sequence_part depth reader.old reader.new out.old out.new letters.old letters.new result }
-{
-    item(reader, out, letters, depth)?;
-    while accept(reader, b'.') {
-        item(reader, out, letters, depth)?;
-        out.push(Operation::Sequence);
+    /// item = base [ "*" ]
+    #[cycle(grammar)]
+    fn item(&mut self) -> Result<(), Refusal>
+        ensures { Reads item_part self.old self.new result }
+    {
+        self.base()?;
+        if self.reader.accept(b'*') {
+            self.emit(Operation::Star);
+        }
+        Ok(())
     }
-    Ok(())
-}
 
-/// alternative = sequence { "|" sequence }
-#[cycle(grammar)]
-fn alternative(
-    reader: &mut Reader,
-    out: &mut Postfix,
-    letters: &mut Letters,
-    depth: usize,
-) -> Result<(), Refusal>
-    requires fits { Fits reader.old out.old }
-    requires shallow { depth ≤ 16 }
-    ensures { Parsed alternative_part depth reader.old reader.new out.old out.new letters.old letters.new result }
-{
-    sequence(reader, out, letters, depth)?;
-    while accept(reader, b'|') {
-        sequence(reader, out, letters, depth)?;
-        out.push(Operation::Alternative);
+    // The next two differ in a sign, an operation and the part below. One function of both would take that part as a parameter,
+    // and the grammar would no longer stand in the code line by line.
+
+    /// sequence = item { "." item }
+    #[cycle(grammar)]
+    fn sequence(&mut self) -> Result<(), Refusal>
+        ensures { Reads sequence_part self.old self.new result }
+    {
+        self.item()?;
+        while self.reader.accept(b'.') {
+            self.item()?;
+            self.emit(Operation::Sequence);
+        }
+        Ok(())
     }
-    Ok(())
+
+    /// alternative = sequence { "|" sequence }
+    #[cycle(grammar)]
+    fn alternative(&mut self) -> Result<(), Refusal>
+        ensures { Reads alternative_part self.old self.new result }
+    {
+        self.sequence()?;
+        while self.reader.accept(b'|') {
+            self.sequence()?;
+            self.emit(Operation::Alternative);
+        }
+        Ok(())
+    }
 }
 
 /// Reads a whole text, which has at most 400 bytes, and adds its letters to those before.
-pub(crate) fn read_text(text: &[u8], letters: &mut Letters) -> Result<Postfix, Refusal>
+pub(crate) fn read_text(text: &[u8], letters: Letters) -> Result<(Operations, Letters), Refusal>
     requires { length text.now ≤ 400 }
-    ensures { TextRead text.now letters.old letters.new result }
+    ensures { TextRead text.now letters result }
 {
-    let mut reader = Reader::new(text, Language::PathExpression);
-    let mut out = Postfix::new();
-    alternative(&mut reader, &mut out, letters, 0)?;
-    let next = reader.peek();
+    let mut parser = Parser {
+        reader: Reader::new(text, Language::PathExpression),
+        operations: Operations::new(Operation::Empty),
+        letters,
+        depth: 0,
+    };
+    parser.alternative()?;
+    let next = parser.reader.peek();
     match next.token {
-        Token::End => Ok(out),
-        _ => Err(misplaced(next)),
+        Token::End => Ok((parser.operations, parser.letters)),
+        _ => Err(next.misplaced()),
     }
 }

@@ -11,10 +11,7 @@ use table::node_table::NodeTable;
 
 /// The number of a put's answer: 0, or that of its reason.
 fn answer_number(answer: Result<(), Reason>) -> u8 {
-    match answer {
-        Ok(_) => 0,
-        Err(reason) => reason.number(),
-    }
+    answer.err().map_or(0, u8::from)
 }
 
 fn put<S: Store>(
@@ -36,7 +33,7 @@ fn show<S: Store>(rt: &HostRuntime, store: &S, object: u16, name: &str) -> anyho
         Ok(Value::Number(number)) => println!(rt; "  {object}.{name} = {number}")?,
         Ok(Value::Reference(target)) => println!(rt; "  {object}.{name} -> {target}")?,
         Err(reason) => {
-            let number = reason.number();
+            let number = u8::from(reason);
             println!(rt; "  {object}.{name} is refused: {number}")?;
         }
     }
@@ -91,7 +88,7 @@ fn document<S: Store + Drop>(rt: &HostRuntime, empty: S) -> anyhow::Result<()> {
 }
 
 fn letter(number: u16) -> u8 {
-    b'a'.saturating_add((number % 16) as u8)
+    b'a' + (number % 16) as u8
 }
 
 /// Three letters: another name for each number below 4,096.
@@ -100,31 +97,20 @@ fn name_of(number: u16) -> [u8; 3] {
 }
 
 /// How many of the first n names the root has with their own numbers.
-fn held<S: Store>(store: &S, n: u16) -> u16 {
-    let mut held = 0u16;
-    for number in 0..n {
-        if let Ok(Value::Number(found)) = store.get(0, &name_of(number)) {
-            if found == number as i32 {
-                held = held.saturating_add(1);
-            }
-        }
-    }
-    held
+fn held<S: Store>(store: &S, n: u16) -> usize {
+    (0..n)
+        .filter(|&number| store.get(0, &name_of(number)) == Ok(Value::Number(number.into())))
+        .count()
 }
 
 /// Puts a number on one new property after another until the store refuses; says how many it took, by what number it
 /// refused, and how many of them it holds then.
 fn fill<S: Store>(rt: &HostRuntime, store: &mut S) -> anyhow::Result<()> {
-    let mut taken = 0u16;
-    for number in 0..4096u16 {
-        if store
-            .put(0, &name_of(number), Value::Number(number as i32))
-            .is_err()
-        {
-            break;
-        }
-        taken = taken.saturating_add(1);
-    }
+    let taken = (0..4096)
+        .find(|&number| store
+            .put(0, &name_of(number), Value::Number(number.into()))
+            .is_err())
+        .unwrap_or(4096);
     let number = answer_number(store.put(0, &name_of(taken), Value::Number(0)));
     let held = held(store, taken);
     println!(rt; "  takes {taken} new properties, then {number}; holds {held} of them")?;

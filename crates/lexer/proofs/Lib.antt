@@ -1,5 +1,5 @@
+pub mod Classes
 pub mod Table
-pub mod Spelling
 pub mod Fronts
 pub mod Rows
 pub mod Moves

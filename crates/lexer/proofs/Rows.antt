@@ -3,8 +3,10 @@ use Rattle.std.proofs.Common.{◌≡◌, ℕ, zero, suc, ◌+◌, ◌-◌, ◌<�
 use Rattle.std.specs.List.{prefix_len}
 use Rattle.std.proofs.lemmas.List.Sums.{prefix_len-le-length}
 use Rattle.std.proofs.lemmas.Bool.{cond_both, eqb-true, and_parts}
-use Rattle.lexer.specs.Classes.{class_of, classed, between}
-use Rattle.lexer.specs.Tokens.{Lexeme, name, number, sign, equals, end, bad, Lexed, lexed, decimal, lex, past_blanks, front, named, numbered, signed, starts, numbers, Tokens, then, tokens_within, tokens, TokensGoOn}
+use Rattle.lexer.specs.Classes.{class_of, classed, one_of, letters_or_digits, digits, blanks}
+use Rattle.lexer.specs.declared.class.Class.{Class}
+use Rattle.lexer.specs.declared.class.Class.TheVariants.{Other, Blank, Letter, Digit, Sign}
+use Rattle.lexer.specs.Tokens.{Lexeme, name, number, sign, equals, end, bad, Lexed, lexed, decimal, lex, past_blanks, front, by_class, named, numbered, signed, starts, numbers, Tokens, then, tokens_within, tokens, TokensGoOn}
 use Rattle.lexer.specs.declared.token.Language.{Language}
 
 -- a token that is there takes a byte at least
@@ -22,21 +24,21 @@ Fine at n r = Takes r.lexeme at r.stop × (r.stop ≤ at + n)
 
 module _ (at b : ℕ) (bs : List ℕ) where
   -- a run that begins with b
-  begun : (low high k : ℕ) → class_of b ≡ k → between low high k ≡ true → 1 ≤ prefix_len (classed low high) (b ∷ bs)
-  begun low high k e ok = rw (ap (between low high) e ∙ ok) (omega arith)
+  begun : (ks : List Class) (k : Class) → class_of b ≡ k → one_of ks k ≡ true → 1 ≤ prefix_len (classed ks) (b ∷ bs)
+  begun ks k e ok = rw (ap (one_of ks) e ∙ ok) (omega arith)
 
-  fine_name : class_of b ≡ 2 → Fine at (suc (length bs)) (named at (prefix_len (classed 2 3) (b ∷ bs)) (b ∷ bs))
+  fine_name : class_of b ≡ Letter → Fine at (suc (length bs)) (named at (prefix_len (classed letters_or_digits) (b ∷ bs)) (b ∷ bs))
   fine_name e =
-      let n = prefix_len (classed 2 3) (b ∷ bs) in
-      let some = begun 2 3 2 e refl in
-      let most = prefix_len-le-length (classed 2 3) (b ∷ bs) in
+      let n = prefix_len (classed letters_or_digits) (b ∷ bs) in
+      let some = begun letters_or_digits Letter e refl in
+      let most = prefix_len-le-length (classed letters_or_digits) (b ∷ bs) in
       cond_both (leb n 24) (lexed (name (take n (b ∷ bs))) at (at + n)) (lexed bad at at) (Fine at (suc (length bs))) (λ _. (omega arith, omega arith)) (λ _. (tt, omega arith))
 
-  fine_number : class_of b ≡ 3 → Fine at (suc (length bs)) (numbered at (prefix_len (classed 3 3) (b ∷ bs)) (b ∷ bs))
+  fine_number : class_of b ≡ Digit → Fine at (suc (length bs)) (numbered at (prefix_len (classed digits) (b ∷ bs)) (b ∷ bs))
   fine_number e =
-      let n = prefix_len (classed 3 3) (b ∷ bs) in
-      let some = begun 3 3 3 e refl in
-      let most = prefix_len-le-length (classed 3 3) (b ∷ bs) in
+      let n = prefix_len (classed digits) (b ∷ bs) in
+      let some = begun digits Digit e refl in
+      let most = prefix_len-le-length (classed digits) (b ∷ bs) in
       cond_both (leb (decimal (take n (b ∷ bs))) 2147483647) (lexed (number (decimal (take n (b ∷ bs)))) at (at + n)) (lexed bad at at) (Fine at (suc (length bs))) (λ _. (omega arith, omega arith)) (λ _. (tt, omega arith))
 
 -- `==` needs a second byte
@@ -52,21 +54,24 @@ fine_sign at b bs =
 
 fine_front : (l : Language) (at : ℕ) (bs : List ℕ) → Fine at (length bs) (front l at bs)
 fine_front l at [] = (tt, omega arith)
-fine_front l at (b ∷ bs) =
-    cond_both (eqb (class_of b) 2) (named at (prefix_len (classed 2 3) (b ∷ bs)) (b ∷ bs)) _ (Fine at (suc (length bs)))
-    (λ e. fine_name at b bs (eqb-true _ _ e))
-    (λ _. cond_both (eqb (class_of b) 3 && numbers l) (numbered at (prefix_len (classed 3 3) (b ∷ bs)) (b ∷ bs)) _ (Fine at (suc (length bs)))
-    (λ e. fine_number at b bs (eqb-true _ _ (and_parts _ _ e).0))
-    (λ _. cond_both (eqb (class_of b) 4 && starts l b) (signed at b bs) (lexed bad at at) (Fine at (suc (length bs)))
-    (λ _. fine_sign at b bs)
-    (λ _. (tt, omega arith))))
+fine_front l at (b ∷ bs) = go (class_of b) refl
+  where
+    none : Fine at (suc (length bs)) (lexed bad at at)
+    none = (tt, omega arith)
+
+    go : (k : Class) → class_of b ≡ k → Fine at (suc (length bs)) (by_class l k at b bs)
+    go Other e = none
+    go Blank e = none
+    go Letter e = fine_name at b bs e
+    go Digit e = cond_both (numbers l) _ _ (Fine at (suc (length bs))) (λ _. fine_number at b bs e) (λ _. none)
+    go Sign e = cond_both (starts l b) _ _ (Fine at (suc (length bs))) (λ _. fine_sign at b bs) (λ _. none)
 
 -- what is found from a place on lies after it and within the text
 pub found : (l : Language) (text : List ℕ) (at : ℕ) → at ≤ length text → Takes (lex l text at).lexeme at (lex l text at).stop × ((lex l text at).stop ≤ length text)
 unfolding lex
 found l text at h =
     let start = past_blanks text at in
-    let few = prefix_len-le-length (classed 1 1) (drop at text) in
+    let few = prefix_len-le-length (classed blanks) (drop at text) in
     let long = length-drop at text in
     let rest = length-drop start text in
     let fine = fine_front l start (drop start text) in

@@ -14,16 +14,16 @@ both_right true b t = t
 both_right false b t = absurd t
 
 -- the test f passes at each entry of the list and its place, counted from i
-abbrev pub every : (ℕ → ℕ → Bool) → ℕ → List ℕ → Bool
+abbrev pub every : {X : Type 0} → (ℕ → X → Bool) → ℕ → List X → Bool
 every f i [] = true
 every f i (x ∷ xs) = both (f i x) (every f (suc i) xs)
 
-from : (f : ℕ → ℕ → Bool) (xs : List ℕ) (i : ℕ) → T (every f i xs) → (k : ℕ) → k < length xs → T (f (i + k) (get_or xs k 0))
-from f [] i t k h = absurd (not-suc-le-zero h)
-from f (x ∷ xs) i t zero h = subst (λ (m : ℕ). T (f m x)) (sym (add-zero i)) (both_left (f i x) (every f (suc i) xs) t)
-from f (x ∷ xs) i t (suc k) h =
-    subst (λ (m : ℕ). T (f m (get_or xs k 0))) (suc-add i k ∙ sym (add-suc i k))
-    (from f xs (suc i) (both_right (f i x) (every f (suc i) xs) t) k (le_of_suc-le-suc h))
+from : {X : Type 0} (f : ℕ → X → Bool) (xs : List X) (i : ℕ) → T (every f i xs) → (k : ℕ) (d : X) → k < length xs → T (f (i + k) (get_or xs k d))
+from f [] i t k d h = absurd (not-suc-le-zero h)
+from f (x ∷ xs) i t zero d h = subst (λ (m : ℕ). T (f m x)) (sym (add-zero i)) (both_left (f i x) (every f (suc i) xs) t)
+from f (x ∷ xs) i t (suc k) d h =
+    subst (λ (m : ℕ). T (f m (get_or xs k d))) (suc-add i k ∙ sym (add-suc i k))
+    (from f xs (suc i) (both_right (f i x) (every f (suc i) xs) t) k d (le_of_suc-le-suc h))
 
-pub at : (f : ℕ → ℕ → Bool) (xs : List ℕ) → T (every f 0 xs) → (k : ℕ) → k < length xs → T (f k (get_or xs k 0))
-at f xs t k h = subst (λ (m : ℕ). T (f m (get_or xs k 0))) (zero-add k) (from f xs 0 t k h)
+pub at : {X : Type 0} (f : ℕ → X → Bool) (xs : List X) → T (every f 0 xs) → (k : ℕ) (d : X) → k < length xs → T (f k (get_or xs k d))
+at f xs t k d h = subst (λ (m : ℕ). T (f m (get_or xs k d))) (zero-add k) (from f xs 0 t k d h)

@@ -1,5 +1,8 @@
--- The class of a byte, by ranges: 0 none, 1 blank, 2 letter, 3 digit, 4 sign.
-use Rattle.std.specs.Prelude.{ℕ, Bool, false, cond, ◌&&◌, ◌||◌, List, [], ◌∷◌, ◌==◌, nat_le}
+-- The class of a byte, by ranges.
+use Rattle.std.specs.Prelude.{ℕ, Bool, true, false, cond, ◌&&◌, ◌||◌, List, [], ◌∷◌, ◌==◌, nat_le}
+use Rattle.std.specs.List.{list_any}
+use Rattle.lexer.specs.declared.class.Class.{Class}
+use Rattle.lexer.specs.declared.class.Class.TheVariants.{Other, Blank, Letter, Digit, Sign}
 
 abbrev pub among : List ℕ → ℕ → Bool
 among [] b = false
@@ -24,9 +27,34 @@ is_digit b = between 48 57 b
 abbrev pub is_sign : ℕ → Bool
 is_sign b = among (46 ∷ 61 ∷ 59 ∷ 123 ∷ 125 ∷ 40 ∷ 41 ∷ 60 ∷ 43 ∷ 45 ∷ 42 ∷ 124 ∷ 63 ∷ []) b
 
-unfoldable pub class_of : ℕ → ℕ
-class_of b = cond (is_blank b) 1 (cond (is_letter b) 2 (cond (is_digit b) 3 (cond (is_sign b) 4 0)))
+unfoldable pub class_of : ℕ → Class
+class_of b = cond (is_blank b) Blank (cond (is_letter b) Letter (cond (is_digit b) Digit (cond (is_sign b) Sign Other)))
 
--- the class of b is one from low to high
-abbrev pub classed : ℕ → ℕ → ℕ → Bool
-classed low high b = between low high (class_of b)
+-- whether two classes are one
+abbrev pub same : Class → Class → Bool
+same Other Other = true
+same Blank Blank = true
+same Letter Letter = true
+same Digit Digit = true
+same Sign Sign = true
+same k l = false
+
+-- a class is one of these
+abbrev pub one_of : List Class → Class → Bool
+one_of ls k = list_any (λ l. same l k) ls
+
+-- the class of b is one of these
+abbrev pub classed : List Class → ℕ → Bool
+classed ks b = one_of ks (class_of b)
+
+abbrev pub letters : List Class
+letters = Letter ∷ []
+
+abbrev pub digits : List Class
+digits = Digit ∷ []
+
+abbrev pub letters_or_digits : List Class
+letters_or_digits = Letter ∷ Digit ∷ []
+
+abbrev pub blanks : List Class
+blanks = Blank ∷ []

@@ -1,6 +1,7 @@
 -- Names and paths. A name has 1 to 24 bytes, first a letter, then letters or digits; a path is a list of names.
 use Rattle.std.specs.Prelude.{ℕ, Bool, true, false, ◌&&◌, List, [], ◌∷◌, length, nat_le}
-use Rattle.lexer.specs.Classes.{classed}
+use Rattle.std.specs.List.{list_all}
+use Rattle.lexer.specs.Classes.{classed, letters, letters_or_digits}
 
 abbrev pub Name : Type 0
 Name = List ℕ
@@ -10,12 +11,11 @@ Path = List Name
 
 -- letters or digits
 abbrev pub plain : List ℕ → Bool
-plain [] = true
-plain (b ∷ bs) = classed 2 3 b && plain bs
+plain bs = list_all (classed letters_or_digits) bs
 
 abbrev pub lawful : List ℕ → Bool
 lawful [] = false
-lawful (b ∷ bs) = classed 2 2 b && (plain bs && nat_le (length bs) 23)
+lawful (b ∷ bs) = classed letters b && (plain bs && nat_le (length bs) 23)
 
 abbrev pub all_lawful : Path → Bool
 all_lawful [] = true

@@ -1,6 +1,6 @@
 -- The bytes of a name that the code holds.
-use Rattle.std.specs.Prelude.{ℕ, List, take}
+use Rattle.std.specs.Prelude.{ℕ, List}
 use Rattle.lexer.specs.declared.name.Name.{Name}
 
 abbrev pub spelled : Name → List ℕ
-spelled n = take n.len n.bytes
+spelled n = n.bytes.entries

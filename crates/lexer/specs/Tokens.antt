@@ -2,7 +2,9 @@
 -- can be. A bad token has no end: it stays where it begins.
 use Rattle.std.specs.Prelude.{◌≡◌, ℕ, zero, suc, ◌+◌, ◌-◌, ◌*◌, ◌<◌, ◌≤◌, Bool, true, false, cond, not, ◌&&◌, List, [], ◌∷◌, length, take, drop, fold, ◌==◌, nat_le, slice_index, slice_range}
 use Rattle.std.specs.List.{prefix_len}
-use Rattle.lexer.specs.Classes.{class_of, classed, among}
+use Rattle.lexer.specs.Classes.{class_of, classed, among, letters_or_digits, digits, blanks}
+use Rattle.lexer.specs.declared.class.Class.{Class}
+use Rattle.lexer.specs.declared.class.Class.TheVariants.{Other, Blank, Letter, Digit, Sign as Signs}
 use Rattle.lexer.specs.Names.{lawful}
 use Rattle.lexer.specs.declared.refusal.Reason.{Reason}
 use Rattle.lexer.specs.declared.refusal.Reason.TheVariants.{Grammar, Token as unlawful}
@@ -56,11 +58,12 @@ abbrev pub signed : ℕ → ℕ → List ℕ → Lexed
 signed at b bs = cond (b == 61 && slice_index bs 0 == 61) (lexed equals at (at + 2)) (lexed (sign b) at (at + 1))
 
 -- by the class of the first byte
-abbrev pub by_class : Language → ℕ → ℕ → ℕ → List ℕ → Lexed
-by_class l k at b bs =
-    cond (k == 2) (named at (prefix_len (classed 2 3) (b ∷ bs)) (b ∷ bs))
-    (cond (k == 3 && numbers l) (numbered at (prefix_len (classed 3 3) (b ∷ bs)) (b ∷ bs))
-    (cond (k == 4 && starts l b) (signed at b bs) (lexed bad at at)))
+abbrev pub by_class : Language → Class → ℕ → ℕ → List ℕ → Lexed
+by_class l Letter at b bs = named at (prefix_len (classed letters_or_digits) (b ∷ bs)) (b ∷ bs)
+by_class l Digit at b bs = cond (numbers l) (numbered at (prefix_len (classed digits) (b ∷ bs)) (b ∷ bs)) (lexed bad at at)
+by_class l Signs at b bs = cond (starts l b) (signed at b bs) (lexed bad at at)
+by_class l Blank at b bs = lexed bad at at
+by_class l Other at b bs = lexed bad at at
 
 -- the token at the front of a list of bytes that begins at a place
 abbrev pub front : Language → ℕ → List ℕ → Lexed
@@ -69,7 +72,7 @@ front l at (b ∷ bs) = by_class l (class_of b) at b bs
 
 -- the first place from `at` on with no blank
 abbrev pub past_blanks : List ℕ → ℕ → ℕ
-past_blanks text at = at + prefix_len (classed 1 1) (drop at text)
+past_blanks text at = at + prefix_len (classed blanks) (drop at text)
 
 -- the token that a reader finds that stands at a place
 unfoldable pub lex : Language → List ℕ → ℕ → Lexed

@@ -2,46 +2,53 @@
 ghost use Rattle.std.specs.Prelude.{◌≡◌};
 ghost use Rattle.lexer.specs.Classes.{class_of, classed};
 
-/// Tab, line feed, carriage return, space. Class 0 is that of the bytes that start no token.
-pub const BLANK: u8 = 1;
+use crate::class::Class::{Blank as B, Digit as D, Letter as L, Other as O, Sign as S};
 
-pub const LETTER: u8 = 2;
-
-pub const DIGIT: u8 = 3;
-
-pub const SIGN: u8 = 4;
+/// What a byte starts or goes on.
+#[derive(Clone, Copy, PartialEq, Eq, Debug)]
+pub enum Class {
+    /// Starts no token.
+    Other,
+    /// Tab, line feed, carriage return, space.
+    Blank,
+    Letter,
+    Digit,
+    Sign,
+}
 
 #[rattlefmt::skip]
-const CLASSES: [u8; 256] = [
-    0, 0, 0, 0, 0, 0, 0, 0, 0, 1, 1, 0, 0, 1, 0, 0,
-    0, 0, 0, 0, 0, 0, 0, 0, 0, 0, 0, 0, 0, 0, 0, 0,
-    1, 0, 0, 0, 0, 0, 0, 0, 4, 4, 4, 4, 0, 4, 4, 0,
-    3, 3, 3, 3, 3, 3, 3, 3, 3, 3, 0, 4, 4, 4, 0, 4,
-    0, 2, 2, 2, 2, 2, 2, 2, 2, 2, 2, 2, 2, 2, 2, 2,
-    2, 2, 2, 2, 2, 2, 2, 2, 2, 2, 2, 0, 0, 0, 0, 2,
-    0, 2, 2, 2, 2, 2, 2, 2, 2, 2, 2, 2, 2, 2, 2, 2,
-    2, 2, 2, 2, 2, 2, 2, 2, 2, 2, 2, 4, 4, 4, 0, 0,
-    0, 0, 0, 0, 0, 0, 0, 0, 0, 0, 0, 0, 0, 0, 0, 0,
-    0, 0, 0, 0, 0, 0, 0, 0, 0, 0, 0, 0, 0, 0, 0, 0,
-    0, 0, 0, 0, 0, 0, 0, 0, 0, 0, 0, 0, 0, 0, 0, 0,
-    0, 0, 0, 0, 0, 0, 0, 0, 0, 0, 0, 0, 0, 0, 0, 0,
-    0, 0, 0, 0, 0, 0, 0, 0, 0, 0, 0, 0, 0, 0, 0, 0,
-    0, 0, 0, 0, 0, 0, 0, 0, 0, 0, 0, 0, 0, 0, 0, 0,
-    0, 0, 0, 0, 0, 0, 0, 0, 0, 0, 0, 0, 0, 0, 0, 0,
-    0, 0, 0, 0, 0, 0, 0, 0, 0, 0, 0, 0, 0, 0, 0, 0,
+const CLASSES: [Class; 256] = [
+    O, O, O, O, O, O, O, O, O, B, B, O, O, B, O, O,
+    O, O, O, O, O, O, O, O, O, O, O, O, O, O, O, O,
+    B, O, O, O, O, O, O, O, S, S, S, S, O, S, S, O,
+    D, D, D, D, D, D, D, D, D, D, O, S, S, S, O, S,
+    O, L, L, L, L, L, L, L, L, L, L, L, L, L, L, L,
+    L, L, L, L, L, L, L, L, L, L, L, O, O, O, O, L,
+    O, L, L, L, L, L, L, L, L, L, L, L, L, L, L, L,
+    L, L, L, L, L, L, L, L, L, L, L, S, S, S, O, O,
+    O, O, O, O, O, O, O, O, O, O, O, O, O, O, O, O,
+    O, O, O, O, O, O, O, O, O, O, O, O, O, O, O, O,
+    O, O, O, O, O, O, O, O, O, O, O, O, O, O, O, O,
+    O, O, O, O, O, O, O, O, O, O, O, O, O, O, O, O,
+    O, O, O, O, O, O, O, O, O, O, O, O, O, O, O, O,
+    O, O, O, O, O, O, O, O, O, O, O, O, O, O, O, O,
+    O, O, O, O, O, O, O, O, O, O, O, O, O, O, O, O,
+    O, O, O, O, O, O, O, O, O, O, O, O, O, O, O, O,
 ];
 
 /// The class of a byte, from the table.
-pub fn class(b: u8) -> u8
-    ensures { result ≡ class_of b }
-{
-    CLASSES[b as usize]
+impl From<u8> for Class {
+    ghost from_gives = { λ b class. class ≡ class_of b };
+
+    fn from(b: u8) -> Class {
+        CLASSES[b as usize]
+    }
 }
 
-/// Whether the class of a byte is one from `low` to `high`.
-pub fn is_classed(b: u8, low: u8, high: u8) -> bool
-    ensures { result ≡ classed low high b }
+/// Whether the class of a byte is one of these.
+pub fn is_classed(b: u8, classes: &[Class]) -> bool
+    ensures { result ≡ classed classes.now b }
 {
-    let k = class(b);
-    low <= k && k <= high
+    let own = Class::from(b);
+    classes.iter().any(|class| *class == own)
 }

@@ -2,60 +2,44 @@
 ghost use Rattle.std.specs.Prelude.{◌≡◌};
 ghost use Rattle.lexer.specs.Refusals.{number_of};
 
-/// The reasons for which a call refuses.
+/// The reasons for which a call refuses, each with its fixed number.
 #[derive(Clone, Copy, PartialEq, Eq, Debug)]
 pub enum Reason {
     /// Fewer working places, or bytes for a report, than the call needs.
-    Space,
+    Space = 1,
     /// Three narrowings stand already.
-    Narrowed,
+    Narrowed = 2,
     /// A text has too many bytes.
-    Long,
+    Long = 3,
     /// No token starts here, a name is too long, or a number is too large.
-    Token,
+    Token = 4,
     /// The token, or the end of the text, cannot come here.
-    Grammar,
+    Grammar = 5,
     /// One open bracket or brace too many.
-    Deep,
+    Deep = 6,
     /// One variable or letter too many.
-    Many,
+    Many = 7,
     /// An object or a reference that is not below the number of objects.
-    Object,
+    Object = 8,
     /// An unlawful name in a call of a store.
-    Name,
+    Name = 9,
     /// The steps counted already equal the allowance.
-    Steps,
+    Steps = 10,
     /// A value of the wrong kind.
-    Kind,
+    Kind = 11,
     /// A refused access finds its list full.
-    Log,
+    Log = 12,
     /// A said number finds its list full.
-    Said,
+    Said = 13,
     /// The store has no writes left.
-    Full,
+    Full = 14,
 }
 
-impl Reason {
-    /// The fixed number of the reason.
-    pub fn number(self) -> u8
-        ensures { result ≡ number_of self }
-    {
-        match self {
-            Reason::Space => 1,
-            Reason::Narrowed => 2,
-            Reason::Long => 3,
-            Reason::Token => 4,
-            Reason::Grammar => 5,
-            Reason::Deep => 6,
-            Reason::Many => 7,
-            Reason::Object => 8,
-            Reason::Name => 9,
-            Reason::Steps => 10,
-            Reason::Kind => 11,
-            Reason::Log => 12,
-            Reason::Said => 13,
-            Reason::Full => 14,
-        }
+impl From<Reason> for u8 {
+    ghost from_gives = { λ reason number. number ≡ number_of reason };
+
+    fn from(reason: Reason) -> u8 {
+        reason as u8
     }
 }
 

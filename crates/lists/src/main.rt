@@ -1,7 +1,7 @@
 //! Fills lent places with a bounded list, of numbers and of records, and shows what the host then finds there.
 #![tactic(auto)]
 
-ghost use Rattle.std.specs.Prelude.{◌≡◌, cond, length, nat_lt, slice_set};
+ghost use Rattle.std.specs.Prelude.{◌≡◌, length, nat_lt, slice_set};
 
 mod examples;
 
@@ -13,7 +13,7 @@ fn note<T: Drop>(places: &mut [T], entry: T) -> bool
     ensures after { places.new ≡ slice_set places.old 0 entry }
 {
     let mut list = Bounded::new(places);
-    list.push(entry)
+    list.push(entry).is_ok()
 }
 
 /// A record of more than one part.

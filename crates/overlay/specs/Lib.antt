@@ -1,4 +1,3 @@
-pub mod Entries
 pub mod Lent
 pub mod Over
 pub mod Overlays

@@ -2,5 +2,4 @@
 #![tactic(auto)]
 
 mod changes;
-mod entry;
 pub mod overlay;

@@ -1,5 +1,5 @@
 -- States inside an expression: which tokens they let pass, and which states let the same tokens pass.
-use Rattle.std.proofs.Common.{◌≡◌, ℕ, Bool, true, false, cond, not, eqb, List, [], ◌∷◌, Some, None, Option, sym, refl, ap, ◌∙◌, arith}
+use Rattle.std.proofs.Common.{◌≡◌, ℕ, Bool, true, false, cond, not, eqb, List, [], ◌∷◌, Some, None, Option, sym, refl, ap, ◌∙◌}
 use Rattle.std.proofs.lemmas.Bool.{not-true, both_ways}
 use Rattle.lexer.specs.Names.{Name}
 use Rattle.lexer.specs.Readers.{tokens_from, next_of, next_place}
@@ -8,7 +8,8 @@ use Rattle.lexer.specs.declared.reader.Reader.{Reader}
 use Rattle.script.specs.Reading.{Pending, Level, joined, sum, after_times, after_term, after_comparison, compare, at_level, close_bracket, expression_of, Purpose, assigning, writing, saying, testing, repeating, end_expression, end_condition, Spot, wanting, asked, named, dotted, held, atom, Inner, inner, inner_word, inner_advance, goes_inside, word_in, Frame, advance, advance_at, finish, name_in, if_plain, read}
 use Rattle.script.specs.Trees.{Step, Operator, plus, minus, times, less, same, Expr, binary}
 use Rattle.script.specs.Words.{Word, if_word, else_word, while_word, say_word, cut_word, has_word, plain_word, word_of}
-use Rattle.parser.specs.Parsing.{Around, in_expression, none_of, operator_at, Trail, Approach}
+use Rattle.parser.specs.Operators.{none_of, operator_at}
+use Rattle.parser.specs.Parsing.{Around, in_expression, Trail, Approach}
 use Rattle.parser.specs.declared.node.Operator.{Operator as Held}
 use Rattle.parser.specs.declared.node.Operator.TheVariants.{Plus, Minus, Times, Less, Same}
 use Rattle.parser.specs.declared.operators.Rank.TheVariants.{Product}
@@ -38,7 +39,7 @@ by_word {A} n f i e w s c h none = go (word_of n) none
     go say_word k = s
     go cut_word k = c
     go has_word k = h
-    go plain_word k = let z : ◌≡◌ {A = ℕ} 0 1 = cc in absurd (omega arith)
+    go plain_word k = cc
 
 -- ---- paths
 
@@ -144,7 +145,7 @@ stuck_wanting a outer l (name n) at h = go (word_of n) h.no_name h.no_has
     go say_word k no_has = refl
     go cut_word k no_has = refl
     go has_word k no_has = absurd (no_has refl)
-    go plain_word k no_has = let z : ◌≡◌ {A = ℕ} 0 1 = cc in absurd (omega arith)
+    go plain_word k no_has = cc
 stuck_wanting a outer l (number k) at h = absurd (h.no_number k refl)
 stuck_wanting a outer l (sign b) at h = rw h.no_bracket (simp cond_same)
 stuck_wanting a outer l equals at h = refl
@@ -245,7 +246,7 @@ module _ (a : Around) (outer : List Level) (k l : Level) (d e : Expr) (sums : su
 
 -- where `*` does not come, it does not matter what it would pass
 no_star : {A : Type 0} (t : Bool) (x y m : A) → none_of (cond t (Some Times) None) ≡ true → cond t x m ≡ cond t y m
-no_star true x y m h = let z : ◌≡◌ {A = ℕ} 0 1 = cc in absurd (omega arith)
+no_star true x y m h = cc
 no_star false x y m h = refl
 
 module _ (a : Around) (outer : List Level) (r : Reader) (vs : List Name) (o : Operator) (at : ℕ) (d e : Expr) where

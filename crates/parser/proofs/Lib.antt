@@ -1,5 +1,5 @@
+mod Words
 mod Numbers
-mod Names
 mod Advances
 mod Trails
 mod Stable

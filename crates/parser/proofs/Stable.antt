@@ -18,7 +18,7 @@ low_more {m} {n} h (binary o at a b) low = (low_more h a low.0, low_more {m = m 
 -- a variable keeps its number
 known_more : (vs more : List Name) (n : Name) → among vs n ≡ true → (among (vs ++ more) n ≡ true) × (index_of (vs ++ more) n ≡ index_of vs n)
 unfolding index_of
-known_more [] more n e = let z : ◌≡◌ {A = ℕ} 0 1 = cc in absurd (omega arith)
+known_more [] more n e = cc
 known_more (v ∷ vs) more n e = go (bytes_eq v n) (known_more vs more n) e
   where
     go : (b : Bool) → (among vs n ≡ true → (among (vs ++ more) n ≡ true) × (index_of (vs ++ more) n ≡ index_of vs n)) → (b || among vs n) ≡ true → ((b || among (vs ++ more) n) ≡ true) × (cond b 0 (suc (index_of (vs ++ more) n)) ≡ cond b 0 (suc (index_of vs n)))

@@ -1,4 +1,5 @@
 pub mod Words
 pub mod Numbering
 pub mod Code
+pub mod Operators
 pub mod Parsing

@@ -1,14 +1,14 @@
 -- The variables that the code holds, and their numbers.
-use Rattle.std.specs.Prelude.{◌≡◌, ℕ, suc, ◌<◌, ◌≤◌, true, false, cond, List, [], ◌∷◌, map, length, take, Some, None, Option}
+use Rattle.std.specs.Prelude.{◌≡◌, ℕ, suc, ◌<◌, ◌≤◌, true, false, cond, List, [], ◌∷◌, map, length, Some, None, Option}
 use Rattle.std.specs.Str.{bytes_eq}
 use Rattle.lexer.specs.Names.{Name}
 use Rattle.lexer.specs.Spelled.{spelled}
 use Rattle.script.specs.Reading.{among, with_variable}
 use Rattle.parser.specs.declared.variables.Variables.{Variables}
 
--- the names that a table holds
+-- the names of the variables
 abbrev pub variables_of : Variables → List Name
-variables_of t = map spelled (take t.used t.names)
+variables_of v = map spelled v.names.entries
 
 -- the number of a variable: how many stand before it
 unfoldable pub index_of : List Name → Name → ℕ

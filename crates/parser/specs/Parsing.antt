@@ -1,11 +1,10 @@
--- What the functions promise that read parts of scripts. Each reads one part of the grammar from where the reader stands
--- and writes the nodes of its tree after those that are there.
-use Rattle.std.specs.Prelude.{◌≡◌, ℕ, ◌+◌, ◌-◌, ◌*◌, ◌<◌, ◌≤◌, Bool, true, false, cond, ◌&&◌, ◌⊎◌, List, [], ◌∷◌, ◌++◌, length, Some, None, Ok, Err, Option, Result, ◌==◌}
+-- What the parser promises that reads parts of scripts. Each call reads one part of the grammar from where the reader stands
+-- and writes the nodes of its tree after those that are there. The parser is p before the call, and q after it.
+use Rattle.std.specs.Prelude.{◌≡◌, ℕ, ◌+◌, ◌-◌, ◌*◌, ◌<◌, ◌≤◌, Bool, true, false, ◌&&◌, ◌⊎◌, List, [], ◌∷◌, ◌++◌, length, Some, None, Ok, Err, Option, Result}
 use Rattle.bounded.specs.Filled.{filled, places_of}
-use Rattle.bounded.specs.declared.Bounded.{Bounded}
 use Rattle.lexer.specs.Names.{Name, lawful}
 use Rattle.lexer.specs.Readers.{text_of, place_of, language_of, tokens_from, next_of, next_place, past_next, Moved}
-use Rattle.lexer.specs.Tokens.{Lexeme, name, number, sign, equals, end, bad, is_the_sign, reason_at}
+use Rattle.lexer.specs.Tokens.{Lexeme, name, sign, is_the_sign, reason_at}
 use Rattle.lexer.specs.declared.reader.Reader.{Reader}
 use Rattle.lexer.specs.declared.refusal.Reason.TheVariants.{Many}
 use Rattle.lexer.specs.declared.refusal.Refusal.{Refusal}
@@ -14,53 +13,37 @@ use Rattle.script.specs.Trees.{Step, Expr, Block}
 use Rattle.script.specs.Words.{plain_word, word_of}
 use Rattle.parser.specs.Code.{Stands, SoundPath, path_code, steps_code, expression_code, AllStand, Sound, Low}
 use Rattle.parser.specs.Numbering.{variables_of, index_of}
+use Rattle.parser.specs.Operators.{operator_at, none_of}
 use Rattle.parser.specs.declared.node.Node.{Node}
-use Rattle.parser.specs.declared.node.Operator.{Operator}
-use Rattle.parser.specs.declared.node.Operator.TheVariants.{Plus, Minus, Times, Less, Same}
-use Rattle.parser.specs.declared.paths.Called.{Called}
-use Rattle.parser.specs.declared.operators.Found.{Found}
-use Rattle.parser.specs.declared.operators.Rank.{Rank}
+use Rattle.parser.specs.declared.parser.Called.{Called}
+use Rattle.parser.specs.declared.parser.Parser.{Parser}
 use Rattle.parser.specs.declared.operators.Rank.TheVariants.{Product, Sum, Comparison}
-use Rattle.parser.specs.declared.variables.Variables.{Variables}
 
--- the nodes lie where they lay
-pub record Kept (o u : Bounded Node) : Type 0 where
-  pub size : length (places_of u) ≡ length (places_of o)
-  pub lent : u.places.ghost_name ≡ o.places.ghost_name
+-- the nodes written so far, and the names of the variables
+abbrev pub nodes_of : Parser → List Node
+nodes_of p = filled p.out
 
--- there are hardly more nodes than bytes read, and so there is room
-abbrev pub Fits : Reader → Bounded Node → Type 0
-Fits r o = (length (filled o) ≤ place_of r + 2) × (length (text_of r) ≤ 2048) × (4096 ≤ length (places_of o))
+abbrev pub names_of : Parser → List Name
+names_of p = variables_of p.variables
 
--- ---- operators
+-- a parser that reads the same text, in the same language, and whose nodes lie where they lay
+pub record Kept (p q : Parser) : Type 0 where
+  pub text : text_of q.reader ≡ text_of p.reader
+  pub language : language_of q.reader ≡ language_of p.reader
+  pub size : length (places_of q.out) ≡ length (places_of p.out)
+  pub lent : q.out.places.ghost_name ≡ p.out.places.ghost_name
 
-abbrev pub sign_operator : Rank → ℕ → Option Operator
-sign_operator Product b = cond (b == 42) (Some Times) None
-sign_operator Sum b = cond (b == 43) (Some Plus) (cond (b == 45) (Some Minus) None)
-sign_operator Comparison b = cond (b == 60) (Some Less) None
+-- a parser of which nothing has changed but where its reader stands
+pub record OnlyReads (p q : Parser) : Type 0 where
+  pub out : q.out ≡ p.out
+  pub variables : q.variables ≡ p.variables
 
-abbrev pub equals_operator : Rank → Option Operator
-equals_operator Product = None
-equals_operator Sum = None
-equals_operator Comparison = Some Same
-
--- the operator of a rank that a token is
-abbrev pub operator_at : Rank → Lexeme → Option Operator
-operator_at rank (name n) = None
-operator_at rank (number n) = None
-operator_at rank (sign b) = sign_operator rank b
-operator_at rank equals = equals_operator rank
-operator_at rank end = None
-operator_at rank bad = None
-
-abbrev pub none_of : {A : Type 0} → Option A → Bool
-none_of None = true
-none_of (Some x) = false
-
--- a reader passes the next token if it is an operator of the rank
-abbrev pub Operated : Rank → Reader → Reader → Option Found → Type 0
-Operated rank r s (Some f) = (operator_at rank (next_of r) ≡ Some f.operator) × (f.place ≡ next_place r) × Moved r s (past_next r) × (place_of r < place_of s)
-Operated rank r s None = (operator_at rank (next_of r) ≡ None) × Moved r s (place_of r)
+-- a parser of which nothing has changed but its nodes, which lie where they lay
+pub record OnlyWrites (p q : Parser) : Type 0 where
+  pub reader : q.reader ≡ p.reader
+  pub variables : q.variables ≡ p.variables
+  pub size : length (places_of q.out) ≡ length (places_of p.out)
+  pub lent : q.out.places.ghost_name ≡ p.out.places.ghost_name
 
 -- ---- variables and names after dots
 
@@ -83,28 +66,28 @@ CalledNext r s (Ok c) = NamePassed r s c.bytes.now × (c.place ≡ next_place r)
 CalledNext r s (Err x) = NoName r x × Moved r s (place_of r)
 
 -- a variable was read: it is among the variables, and has its number
-pub record VariablePassed (r s : Reader) (v w : Variables) (i : ℕ) : Type 0 where
+pub record VariablePassed (p q : Parser) (i : ℕ) : Type 0 where
   pub variable : Name
-  pub passed : NamePassed r s variable
-  pub variables : variables_of w ≡ with_variable (variables_of v) false (Some variable)
-  pub known : among (variables_of w) variable ≡ true
-  pub number : i ≡ index_of (variables_of w) variable
+  pub passed : NamePassed p.reader q.reader variable
+  pub variables : names_of q ≡ with_variable (names_of p) false (Some variable)
+  pub known : among (names_of q) variable ≡ true
+  pub number : i ≡ index_of (names_of q) variable
 
 -- the seventeenth variable
-pub record Seventeenth (r s : Reader) (v : Variables) (x : Refusal) : Type 0 where
+pub record Seventeenth (p q : Parser) (x : Refusal) : Type 0 where
   pub variable : Name
-  pub passed : NamePassed r s variable
-  pub many : 16 < length (with_variable (variables_of v) false (Some variable))
+  pub passed : NamePassed p.reader q.reader variable
+  pub many : 16 < length (with_variable (names_of p) false (Some variable))
   pub reason : x.reason ≡ Many
-  pub place : x.place ≡ next_place r
+  pub place : x.place ≡ next_place p.reader
 
 -- no variable was read
-abbrev pub NoVariable : Reader → Reader → Variables → Refusal → Type 0
-NoVariable r s v x = (NoName r x × Moved r s (place_of r)) ⊎ Seventeenth r s v x
+abbrev pub NoVariable : Parser → Parser → Refusal → Type 0
+NoVariable p q x = (NoName p.reader x × Moved p.reader q.reader (place_of p.reader)) ⊎ Seventeenth p q x
 
-abbrev pub VariableRead : Reader → Reader → Variables → Variables → Result ℕ Refusal → Type 0
-VariableRead r s v w (Ok i) = VariablePassed r s v w i
-VariableRead r s v w (Err x) = NoVariable r s v x × (variables_of w ≡ variables_of v)
+abbrev pub VariableRead : Parser → Parser → Result ℕ Refusal → Type 0
+VariableRead p q (Ok i) = VariablePassed p q i
+VariableRead p q (Err x) = NoVariable p q x × (names_of q ≡ names_of p)
 
 -- where names after dots can come: the state after some of them, and the state after a dot
 pub record Trail : Type 0 where
@@ -116,26 +99,25 @@ pub record Trail : Type 0 where
   pub unfinished : (ss : List Step) → finish (dotted ss) (dotted ss).frames (dotted ss).stand ≡ None
   pub after : (ss : List Step) → after_dot (dotted ss).stand ≡ true
 
--- names after dots were read from r to s
-pub record StepsMade (vs : List Name) (r s : Reader) (o u : Bounded Node) (count : ℕ) : Type 0 where
+-- names after dots were read
+pub record StepsMade (vs : List Name) (p q : Parser) (count : ℕ) : Type 0 where
   pub steps : List Step
   pub many : count ≡ length steps
-  pub on : place_of r ≤ place_of s
-  pub room : length (filled u) + place_of r ≤ length (filled o) + place_of s
-  pub nodes : filled u ≡ filled o ++ steps_code steps
-  pub stand : AllStand (text_of r) steps
-  pub ended : is_the_sign 46 (next_of s) ≡ false
-  pub goes : (t : Trail) (ss : List Step) → read vs (t.named ss) (tokens_from r) ≡ read vs (t.named (ss ++ steps)) (tokens_from s)
+  pub on : place_of p.reader ≤ place_of q.reader
+  pub room : length (nodes_of q) + place_of p.reader ≤ length (nodes_of p) + place_of q.reader
+  pub nodes : nodes_of q ≡ nodes_of p ++ steps_code steps
+  pub stand : AllStand (text_of p.reader) steps
+  pub ended : is_the_sign 46 (next_of q.reader) ≡ false
+  pub goes : (t : Trail) (ss : List Step) → read vs (t.named ss) (tokens_from p.reader) ≡ read vs (t.named (ss ++ steps)) (tokens_from q.reader)
 
-abbrev pub StepsSaid : List Name → Reader → Reader → Bounded Node → Bounded Node → Result ℕ Refusal → Type 0
-StepsSaid vs r s o u (Ok count) = StepsMade vs r s o u count
-StepsSaid vs r s o u (Err x) = (t : Trail) (ss : List Step) → read vs (t.named ss) (tokens_from r) ≡ refused x.reason x.place
+abbrev pub StepsSaid : List Name → Parser → Parser → Result ℕ Refusal → Type 0
+StepsSaid vs p q (Ok count) = StepsMade vs p q count
+StepsSaid vs p q (Err x) = (t : Trail) (ss : List Step) → read vs (t.named ss) (tokens_from p.reader) ≡ refused x.reason x.place
 
-pub record StepsRead (r s : Reader) (o u : Bounded Node) (x : Result ℕ Refusal) : Type 0 where
-  pub text : text_of s ≡ text_of r
-  pub language : language_of s ≡ language_of r
-  pub kept : Kept o u
-  pub said : (vs : List Name) → length vs ≤ 16 → StepsSaid vs r s o u x
+pub record StepsRead (p q : Parser) (x : Result ℕ Refusal) : Type 0 where
+  pub kept : Kept p q
+  pub variables : q.variables ≡ p.variables
+  pub said : (vs : List Name) → length vs ≤ 16 → StepsSaid vs p q x
 
 -- where a path can come: the state before it, the states after its variable, and which tokens are known not to come
 pub record Approach : Type 0 where
@@ -147,29 +129,27 @@ pub record Approach : Type 0 where
   pub unfinished : finish start start.frames start.stand ≡ None
   pub after : after_dot start.stand ≡ false
 
--- a path was read from r to s
-pub record PathMade (r s : Reader) (o u : Bounded Node) (v w : Variables) (count : ℕ) : Type 0 where
+-- a path was read
+pub record PathMade (p q : Parser) (count : ℕ) : Type 0 where
   pub variable : Name
   pub steps : List Step
   pub many : count ≡ length steps
-  pub on : place_of r < place_of s
-  pub room : length (filled u) + place_of r ≤ length (filled o) + place_of s
+  pub on : place_of p.reader < place_of q.reader
+  pub room : length (nodes_of q) + place_of p.reader ≤ length (nodes_of p) + place_of q.reader
   pub new : List Name
-  pub variables : variables_of w ≡ variables_of v ++ new
-  pub nodes : filled u ≡ filled o ++ path_code (variables_of w) variable steps
-  pub sound : SoundPath (text_of r) (variables_of w) variable steps
-  pub ended : is_the_sign 46 (next_of s) ≡ false
-  pub goes : (k : Approach) → k.ready_for (next_of r) ≡ true → read (variables_of v) k.start (tokens_from r) ≡ read (variables_of w) ((k.trail variable).named steps) (tokens_from s)
+  pub variables : names_of q ≡ names_of p ++ new
+  pub nodes : nodes_of q ≡ nodes_of p ++ path_code (names_of q) variable steps
+  pub sound : SoundPath (text_of p.reader) (names_of q) variable steps
+  pub ended : is_the_sign 46 (next_of q.reader) ≡ false
+  pub goes : (k : Approach) → k.ready_for (next_of p.reader) ≡ true → read (names_of p) k.start (tokens_from p.reader) ≡ read (names_of q) ((k.trail variable).named steps) (tokens_from q.reader)
 
-abbrev pub PathSaid : Reader → Reader → Bounded Node → Bounded Node → Variables → Variables → Result ℕ Refusal → Type 0
-PathSaid r s o u v w (Ok count) = PathMade r s o u v w count
-PathSaid r s o u v w (Err x) = (k : Approach) → k.ready_for (next_of r) ≡ true → read (variables_of v) k.start (tokens_from r) ≡ refused x.reason x.place
+abbrev pub PathSaid : Parser → Parser → Result ℕ Refusal → Type 0
+PathSaid p q (Ok count) = PathMade p q count
+PathSaid p q (Err x) = (k : Approach) → k.ready_for (next_of p.reader) ≡ true → read (names_of p) k.start (tokens_from p.reader) ≡ refused x.reason x.place
 
-pub record PathRead (r s : Reader) (o u : Bounded Node) (v w : Variables) (x : Result ℕ Refusal) : Type 0 where
-  pub text : text_of s ≡ text_of r
-  pub language : language_of s ≡ language_of r
-  pub kept : Kept o u
-  pub said : PathSaid r s o u v w x
+pub record PathRead (p q : Parser) (x : Result ℕ Refusal) : Type 0 where
+  pub kept : Kept p q
+  pub said : PathSaid p q x
 
 -- ---- expressions: no function reads them yet
 
@@ -184,8 +164,8 @@ in_expression a outer level spot = state a.frames a.block (inside a.purpose (inn
 
 -- a part of an expression: the levels at which it is read, the tokens that may come next, and how many values it needs
 -- beyond those of the brackets in it
-pub record Part (P : Type 0) : Type 0 where
-  pub level : P → Level
+pub record Part (L : Type 0) : Type 0 where
+  pub level : L → Level
   pub ends : Lexeme → Bool
   pub values : ℕ
 
@@ -213,27 +193,25 @@ expression_part = record {
   values = 4;
 }
 
--- a part was read from r to s: its nodes are written, and reading on from r is reading on from s
-pub record Made {P : Type 0} (part : Part P) (depth : ℕ) (r s : Reader) (o u : Bounded Node) (v w : Variables) : Type 0 where
+-- a part was read: its nodes are written, and reading on from where the parser stood is reading on from where it stands
+pub record Made {L : Type 0} (part : Part L) (depth : ℕ) (p q : Parser) : Type 0 where
   pub tree : Expr
-  pub on : place_of r < place_of s
-  pub room : length (filled u) + place_of r ≤ length (filled o) + place_of s
+  pub on : place_of p.reader < place_of q.reader
+  pub room : length (nodes_of q) + place_of p.reader ≤ length (nodes_of p) + place_of q.reader
   pub new : List Name
-  pub variables : variables_of w ≡ variables_of v ++ new
-  pub nodes : filled u ≡ filled o ++ expression_code (variables_of w) tree
-  pub sound : Sound (text_of r) (variables_of w) tree
+  pub variables : names_of q ≡ names_of p ++ new
+  pub nodes : nodes_of q ≡ nodes_of p ++ expression_code (names_of q) tree
+  pub sound : Sound (text_of p.reader) (names_of q) tree
   pub low : Low (3 * (16 - depth) + part.values) tree
-  pub ended : part.ends (next_of s) ≡ true
-  pub goes : (p : P) (a : Around) (outer : List Level) → length a.frames + length outer ≡ depth → read (variables_of v) (in_expression a outer (part.level p) wanting) (tokens_from r) ≡ read (variables_of w) (in_expression a outer (part.level p) (held tree)) (tokens_from s)
+  pub ended : part.ends (next_of q.reader) ≡ true
+  pub goes : (l : L) (a : Around) (outer : List Level) → length a.frames + length outer ≡ depth → read (names_of p) (in_expression a outer (part.level l) wanting) (tokens_from p.reader) ≡ read (names_of q) (in_expression a outer (part.level l) (held tree)) (tokens_from q.reader)
 
-abbrev pub Said : {P : Type 0} → Part P → ℕ → Reader → Reader → Bounded Node → Bounded Node → Variables → Variables → Result (Unit {0}) Refusal → Type 0
-Said part depth r s o u v w (Ok _) = Made part depth r s o u v w
-Said {P} part depth r s o u v w (Err x) =
-    (p : P) (a : Around) (outer : List Level) → length a.frames + length outer ≡ depth
-    → read (variables_of v) (in_expression a outer (part.level p) wanting) (tokens_from r) ≡ refused x.reason x.place
+abbrev pub Said : {L : Type 0} → Part L → ℕ → Parser → Parser → Result (Unit {0}) Refusal → Type 0
+Said part depth p q (Ok _) = Made part depth p q
+Said {L} part depth p q (Err x) =
+    (l : L) (a : Around) (outer : List Level) → length a.frames + length outer ≡ depth
+    → read (names_of p) (in_expression a outer (part.level l) wanting) (tokens_from p.reader) ≡ refused x.reason x.place
 
-pub record Parsed {P : Type 0} (part : Part P) (depth : ℕ) (r s : Reader) (o u : Bounded Node) (v w : Variables) (x : Result (Unit {0}) Refusal) : Type 0 where
-  pub text : text_of s ≡ text_of r
-  pub language : language_of s ≡ language_of r
-  pub kept : Kept o u
-  pub said : Said part depth r s o u v w x
+pub record Parsed {L : Type 0} (part : Part L) (depth : ℕ) (p q : Parser) (x : Result (Unit {0}) Refusal) : Type 0 where
+  pub kept : Kept p q
+  pub said : Said part depth p q x

@@ -4,7 +4,6 @@
 
 pub mod node;
 pub mod operators;
-mod output;
-mod paths;
+mod parser;
 pub mod variables;
 pub mod word;

@@ -1,13 +1,13 @@
 //! The nodes of a script: expressions in postfix order, and statements each before its parts.
 
 /// A name after a dot, by where it stands in the text.
-#[derive(Clone, Copy)]
+#[derive(Clone, Copy, PartialEq, Eq, Debug)]
 pub struct Span {
     pub place: usize,
     pub length: usize,
 }
 
-#[derive(Clone, Copy)]
+#[derive(Clone, Copy, PartialEq, Eq, Debug)]
 pub enum Operator {
     Plus,
     Minus,
@@ -18,7 +18,7 @@ pub enum Operator {
 
 /// A part of a script. A variable is known by its number among the script's variables. A statement tells how many nodes
 /// each of its parts has; they stand right after it, one part after the other.
-#[derive(Clone, Copy)]
+#[derive(Clone, Copy, PartialEq, Eq, Debug)]
 pub enum Node {
     Number(i32),
     Variable(usize),

@@ -4,7 +4,7 @@ ghost use Rattle.script.specs.Words.{word_of};
 ghost use Rattle.parser.specs.Words.{as_word};
 
 /// What a word is.
-#[derive(Clone, Copy)]
+#[derive(Clone, Copy, PartialEq, Eq, Debug)]
 pub enum Word {
     If,
     Else,
@@ -17,26 +17,17 @@ pub enum Word {
 }
 
 /// What the word with these bytes is.
+#[tactic(auto, using(crate::proofs::Words::word_by_length, std::proofs::lemmas::Grind::common_steps))]
 pub fn classify(bytes: &[u8]) -> Word
     ensures { as_word result ≡ word_of bytes.now }
 {
-    if bytes == b"if".as_slice() {
-        return Word::If;
+    match bytes {
+        b"if" => Word::If,
+        b"else" => Word::Else,
+        b"while" => Word::While,
+        b"say" => Word::Say,
+        b"cut" => Word::Cut,
+        b"has" => Word::Has,
+        _ => Word::Name,
     }
-    if bytes == b"else".as_slice() {
-        return Word::Else;
-    }
-    if bytes == b"while".as_slice() {
-        return Word::While;
-    }
-    if bytes == b"say".as_slice() {
-        return Word::Say;
-    }
-    if bytes == b"cut".as_slice() {
-        return Word::Cut;
-    }
-    if bytes == b"has".as_slice() {
-        return Word::Has;
-    }
-    Word::Name
 }

@@ -1,4 +1,4 @@
--- What the program writes of a path, and of a contract that is refused.
+-- What the program writes before a path.
 use Rattle.std.specs.Prelude.{ℕ, Bool, true, false, List, ◌++◌, codes, decimal}
 
 -- before a path: whether it may be read, and whether it may be written
@@ -11,6 +11,3 @@ marks_text false false = codes "- - "
 -- before a line that is no path
 abbrev pub wrong_text : ℕ → List ℕ
 wrong_text place = codes "no path at " ++ (decimal place ++ codes ": ")
-
-abbrev pub refusal_text : ℕ → ℕ → ℕ → List ℕ
-refusal_text number text place = codes "contract " ++ (decimal number ++ (codes " text " ++ (decimal text ++ (codes " at " ++ decimal place))))

@@ -1,45 +1,34 @@
 //! Says of each path in a list whether a contract lets it be read and written, or where the contract is refused.
 #![tactic(auto)]
 
-ghost use Rattle.pathcheck.specs.Lines.{marks_text, wrong_text, refusal_text};
+ghost use Rattle.pathcheck.specs.Lines.{marks_text, wrong_text};
 ghost use Rattle.std.specs.Prelude.{◌≡◌, IfOk, string_bytes};
 
 use anyhow::anyhow;
 use contract::expressions::Expression;
-use contract::path_text::permits_text;
+use contract::path_text::{NoPath, permits_text};
+use contract::permits::Permission;
 use std::alloc::{AllocError, Global};
 use std::fs;
 use std::io::Write;
 
 /// What stands before a path: what is permitted, with a dash for what is not.
-fn marks(heap: Global, read: bool, write: bool) -> Result<String, AllocError>
-    ensures { IfOk result (λ s. string_bytes s ≡ marks_text read write) }
+fn marks(permission: Permission) -> &'static str
+    ensures { result.now ≡ marks_text permission.read permission.write }
 {
-    if read {
-        if write {
-            format!(in heap; "read write ")
-        } else {
-            format!(in heap; "read - ")
-        }
-    } else if write {
-        format!(in heap; "- write ")
-    } else {
-        format!(in heap; "- - ")
+    match (permission.read, permission.write) {
+        (true, true) => "read write ",
+        (true, false) => "read - ",
+        (false, true) => "- write ",
+        (false, false) => "- - ",
     }
 }
 
 /// What stands before a line that is no path.
-fn wrong(heap: Global, place: usize) -> Result<String, AllocError>
-    ensures { IfOk result (λ s. string_bytes s ≡ wrong_text place) }
+fn wrong(heap: Global, no_path: NoPath) -> Result<String, AllocError>
+    ensures { IfOk result (λ s. string_bytes s ≡ wrong_text no_path.place) }
 {
-    format!(in heap; "no path at {place}: ")
-}
-
-/// The line on a contract that is refused.
-fn refusal_line(heap: Global, number: u8, text: u8, place: usize) -> Result<String, AllocError>
-    ensures { IfOk result (λ s. string_bytes s ≡ refusal_text number text place) }
-{
-    format!(in heap; "contract {number} text {text} at {place}")
+    format!(in heap; "{no_path}: ")
 }
 
 /// Adds what is said of one line.
@@ -49,11 +38,10 @@ fn say_line(
     line: &[u8],
     out: &mut Vec<u8>,
 ) -> Result<(), AllocError> {
-    let said = match permits_text(contract, line) {
-        Ok(permission) => marks(heap, permission.read, permission.write)?,
-        Err(place) => wrong(heap, place)?,
-    };
-    out.extend_from_slice(said.as_bytes())?;
+    match permits_text(contract, line) {
+        Ok(permission) => out.extend_from_slice(marks(permission).as_bytes())?,
+        Err(no_path) => out.extend_from_slice(wrong(heap, no_path)?.as_bytes())?,
+    }
     out.extend_from_slice(line)?;
     out.push(b'\n')?;
     Ok(())
@@ -62,15 +50,13 @@ fn say_line(
 /// What is said of each line; a line ends before byte 10, or at the end of the list.
 fn say_lines(heap: Global, contract: &Expression, paths: &[u8]) -> Result<Vec<u8>, AllocError> {
     let mut out = Vec::new(heap);
-    let mut from = 0;
-    for i in 0..paths.len() {
-        if paths[i] == b'\n' {
-            say_line(heap, contract, &paths[from..i], &mut out)?;
-            from = i + 1;
-        }
-    }
-    if from < paths.len() {
-        say_line(heap, contract, &paths[from..paths.len()], &mut out)?;
+    for line in paths.split_inclusive(|b| *b == b'\n') {
+        say_line(
+            heap,
+            contract,
+            line.strip_suffix(b"\n").unwrap_or(line),
+            &mut out,
+        )?;
     }
     Ok(out)
 }
@@ -95,11 +81,7 @@ fn main(rt: HostRuntime) -> anyhow::Result<()> {
         Ok(_) => rt
             .stdout()
             .write_all(say_lines(heap, &contract, paths.as_slice())?.as_slice())?,
-        Err(refusal) => {
-            let number = refusal.reason.number();
-            let text = refusal.text.number();
-            rt.println(refusal_line(heap, number, text, refusal.place)?)?;
-        }
+        Err(refusal) => println!(rt; "{refusal}")?,
     }
     Ok(())
 }

@@ -3,10 +3,10 @@ use Rattle.std.proofs.Common.{◌≡◌, ℕ, ◌+◌, ◌≤◌, Bool, true, fa
 use Rattle.std.proofs.lemmas.Bool.{cond_both, and_parts, leb-true, ltb-true}
 use Rattle.std.proofs.lemmas.Bool.Decides.{nat_tests}
 use Rattle.lexer.specs.Names.{Name}
-use Rattle.lexer.specs.Tokens.{Lexeme}
+use Rattle.lexer.specs.Tokens.{Lexeme, is_the_sign}
 use Rattle.lexer.specs.declared.refusal.Reason.{Reason}
 use Rattle.lexer.specs.declared.refusal.Reason.TheVariants.{Deep, Many}
-use Rattle.script.specs.Reading.{Inner, then_block, else_block, while_block, spot_dotted, State, depth, opens, is_the_sign, name_in, after_dot, among, with_variable, passes}
+use Rattle.script.specs.Reading.{Inner, then_block, else_block, while_block, spot_dotted, State, depth, opens, name_in, after_dot, among, with_variable, passes}
 use Rattle.script.specs.Derivations.{Placed, at, deeper, open_after, shallow, variables_in}
 use Rattle.script.proofs.Steps.{by_plus, by_minus, by_less, by_same, Steps, path_begins, path_grows, dot_comes, has_comes, number_comes, bracket_opens, bracket_closes, times_comes, term_comes, side_comes}
 use Rattle.script.proofs.Moves.{begins_then, begins_while, Move, head_comes, cut_comes, target_begins, brace_closes, else_comes, if_ends, else_opens, target_dots, target_grows, target_sets, cut_begins, cut_dots, cut_grows, cut_ends, goes_on, expression_ends, condition_ends, Goes, stays, goes}

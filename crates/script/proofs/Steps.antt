@@ -2,11 +2,11 @@
 use Rattle.std.proofs.Common.{◌≡◌, ℕ, Bool, true, false, cond, eqb, List, [], ◌∷◌, ◌++◌, IfSome, Some, None, Option, sym, refl, subst}
 use Rattle.std.proofs.lemmas.Bool.{eqb-true, cond_both}
 use Rattle.lexer.specs.Names.{Name}
-use Rattle.lexer.specs.Tokens.{Lexeme, name, sign, equals, end, bad}
+use Rattle.lexer.specs.Tokens.{Lexeme, name, sign, equals, end, bad, is_the_sign}
 use Rattle.lexer.specs.Tokens as lexer
 use Rattle.script.specs.Trees.{Step, Operator, plus, minus, times, less, same, Expr, number}
 use Rattle.script.specs.Words.{Word, if_word, else_word, while_word, say_word, cut_word, has_word, plain_word, word_of}
-use Rattle.script.specs.Reading.{Pending, Level, blank, joined, whole, after_times, after_term, Spot, wanting, asked, named, dotted, held, atom, operand, Inner, inner, step_at, with_name, with_has, with_number, open_bracket, close_bracket, with_dot, at_level, with_operator, compare, inner_word, inner_advance, is_the_sign}
+use Rattle.script.specs.Reading.{Pending, Level, blank, joined, whole, after_times, after_term, Spot, wanting, asked, named, dotted, held, atom, operand, Inner, inner, step_at, with_name, with_has, with_number, open_bracket, close_bracket, with_dot, at_level, with_operator, compare, inner_word, inner_advance}
 
 -- what waits for its right side
 abbrev pub pending : Operator → ℕ → Expr → Pending

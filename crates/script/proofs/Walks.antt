@@ -2,11 +2,11 @@
 use Rattle.std.proofs.Common.{◌≡◌, ℕ, ◌≤◌, true, ltb, List, [], ◌∷◌, length, Some, None, Option, refl, ap, arith}
 use Rattle.std.proofs.lemmas.Bool.{false≢true, and_parts, and_from, ltb-true, lt-ltb}
 use Rattle.lexer.specs.Names.{Name}
-use Rattle.lexer.specs.Tokens.{Lexeme, Tokens, token, ended, broken}
+use Rattle.lexer.specs.Tokens.{Lexeme, Tokens, token, ended, broken, is_the_sign}
 use Rattle.lexer.specs.declared.refusal.Reason.{Reason}
 use Rattle.lexer.specs.declared.refusal.Reason.TheVariants.{Token, Grammar}
 use Rattle.script.specs.Trees.{Block}
-use Rattle.script.specs.Reading.{State, advance, finish, depth, is_the_sign, after_dot, variables_after, passes, Outcome, accepted, refused, carry_on, conclude, read}
+use Rattle.script.specs.Reading.{State, advance, finish, depth, after_dot, variables_after, passes, Outcome, accepted, refused, carry_on, conclude, read}
 use Rattle.script.specs.Derivations.{Placed, at, deeper, shallow, variables_in, placed_in, unbroken, Splits, here, past}
 use Rattle.script.proofs.Moves.{Move, move_advances, Ends, end_finishes, Goes, stays, goes}
 use Rattle.script.proofs.Advances.{advance_moves, finish_ends}

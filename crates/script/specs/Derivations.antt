@@ -2,13 +2,13 @@
 -- Signs by their bytes: ( 40, ) 41, * 42, + 43, - 45, . 46, ; 59, < 60, = 61, { 123, } 125.
 use Rattle.std.specs.Prelude.{◌≡◌, ℕ, ◌+◌, ◌-◌, ◌≤◌, Bool, true, false, cond, ◌&&◌, ◌||◌, ◌⊎◌, ◌↔◌, List, [], ◌∷◌, ◌++◌, length, nat_lt}
 use Rattle.lexer.specs.Names.{Name}
-use Rattle.lexer.specs.Tokens.{Lexeme, name, sign, equals, Tokens, token, ended, broken}
+use Rattle.lexer.specs.Tokens.{Lexeme, name, sign, equals, Tokens, token, ended, broken, is_the_sign}
 use Rattle.lexer.specs.Tokens as lexer
 use Rattle.lexer.specs.declared.refusal.Reason.{Reason}
 use Rattle.lexer.specs.declared.refusal.Reason.TheVariants.{Token, Grammar, Deep, Many}
 use Rattle.script.specs.Trees.{Step, plus, minus, times, less, same, Expr, number, access, has, binary, Statement, assign, write, cut, say, branch, loop, Block, done, next}
 use Rattle.script.specs.Words.{if_word, else_word, while_word, say_word, cut_word, has_word, plain_word, word_of}
-use Rattle.script.specs.Reading.{step_at, is_the_sign, opens, name_in, with_variable, plan, start, accepted, refused, read}
+use Rattle.script.specs.Reading.{step_at, opens, name_in, with_variable, plan, start, accepted, refused, read}
 
 -- a token at its place
 pub record Placed : Type 0 where

@@ -11,7 +11,7 @@
 use Rattle.std.specs.Prelude.{ℕ, ◌+◌, Bool, true, false, cond, ◌&&◌, ◌||◌, List, [], ◌∷◌, ◌++◌, length, Some, None, codes, Option, ◌==◌, nat_le}
 use Rattle.std.specs.Str.{bytes_eq}
 use Rattle.lexer.specs.Names.{Name}
-use Rattle.lexer.specs.Tokens.{Lexeme, name, sign, equals, end, bad, Tokens, token, ended, broken, tokens}
+use Rattle.lexer.specs.Tokens.{Lexeme, name, sign, equals, end, bad, Tokens, token, ended, broken, tokens, is_the_sign}
 use Rattle.lexer.specs.Tokens as lexer
 use Rattle.lexer.specs.declared.refusal.Reason.{Reason}
 use Rattle.lexer.specs.declared.refusal.Reason.TheVariants.{Long, Token, Grammar, Deep, Many}
@@ -313,14 +313,6 @@ name_in (sign b) = None
 name_in equals = None
 name_in end = None
 name_in bad = None
-
-abbrev pub is_the_sign : ℕ → Lexeme → Bool
-is_the_sign c (name n) = false
-is_the_sign c (lexer.number n) = false
-is_the_sign c (sign b) = b == c
-is_the_sign c equals = false
-is_the_sign c end = false
-is_the_sign c bad = false
 
 -- what a name makes of where the reading stands
 abbrev pub naming : State → (Name → Stand) → Option Name → Option State

@@ -1,6 +1,6 @@
 -- What the place and the value of the last record that passes say of the other records.
 use Rattle.std.proofs.Common.{◌≡◌, ℕ, zero, suc, ◌<◌, Bool, true, false, cond, List, [], ◌∷◌, ◌++◌, length, get_or, set, Some, None, Option, sym, refl, ap, ◌∙◌, arith}
-use Rattle.store.specs.Records.{next_place, last_place, latest, Absent, Last}
+use Rattle.store.specs.Records.{next_place, last_place, latest, Absent, Found}
 
 impossible : {X : Type 0} → ◌≡◌ {A = ℕ} 0 1 → X
 impossible e = let no_way : ⊥ = omega arith in absurd no_way
@@ -43,9 +43,6 @@ module _ {R : Type 0} (p : R → Bool) where
   past_fails (x ∷ xs) zero e (suc k) d l h = none_passes xs (next_zero (last_place p xs) (p x) e).0 k d (omega arith)
   past_fails (x ∷ xs) (suc i) e (suc k) d l h = past_fails xs i (next_suc (last_place p xs) (p x) i e) k d (omega arith) (omega arith)
 
-  pub last_found : (xs : List R) (i : ℕ) → last_place p xs ≡ Some i → Last p xs i
-  last_found xs i e = record { within = place_within xs i e; passes = λ d. place_passes xs i d e; later = past_fails xs i e }
-
   -- from places to the search
   pub place_none_from : (xs : List R) → Absent p xs → last_place p xs ≡ None
   place_none_from [] h = refl
@@ -58,6 +55,10 @@ module _ {R : Type 0} (p : R → Bool) where
       ap (λ o. next_place o (p x)) (place_none_from xs (λ k d h. past (suc k) d (omega arith) (omega arith))) ∙ ap (next_place None) (here x)
   place_from (x ∷ xs) (suc i) l here past =
       ap (λ o. next_place o (p x)) (place_from xs i (omega arith) here (λ k d h m. past (suc k) d (omega arith) (omega arith)))
+
+  pub last_place-found : (xs : List R) (r : Option ℕ) → Found p xs r → r ≡ last_place p xs
+  last_place-found xs None h = sym (place_none_from xs h)
+  last_place-found xs (Some i) h = sym (place_from xs i h.within h.passes h.later)
 
 module _ {R V : Type 0} (value : R → V) (p : R → Bool) where
   latest_append : (xs ys : List R) (d : V) → latest value p (xs ++ ys) d ≡ latest value p ys (latest value p xs d)

@@ -1,5 +1,5 @@
 pub mod Apart
 pub mod Changes
+pub mod Graphs
 pub mod Latest
-pub mod Places
 pub mod Properties

@@ -1,3 +1,4 @@
-pub mod Labels
+pub mod Cells
+pub mod Inside
 pub mod Meaning
 pub mod Records

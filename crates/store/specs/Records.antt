@@ -1,5 +1,5 @@
 -- Records of properties, each of which has an object and a name. Of the records of one property the last counts.
-use Rattle.std.specs.Prelude.{◌≡◌, ℕ, suc, ◌<◌, Bool, true, false, cond, ◌&&◌, ◌||◌, List, [], ◌∷◌, length, take, Some, None, Option, MatchOption, ◌==◌, slice_index_or}
+use Rattle.std.specs.Prelude.{◌≡◌, ℕ, suc, ◌<◌, Bool, true, false, cond, ◌&&◌, List, [], ◌∷◌, length, Some, None, Option, MatchOption, ◌==◌, slice_index_or}
 use Rattle.std.specs.Str.{bytes_eq}
 use Rattle.lexer.specs.Names.{Name}
 
@@ -40,11 +40,6 @@ pub record Last {R : Type 0} (p : R → Bool) (rs : List R) (i : ℕ) : Type 0 w
 abbrev pub Found : {R : Type 0} → (R → Bool) → List R → Option ℕ → Type 0
 Found p rs r = MatchOption r (Absent p rs) (Last p rs)
 
--- whether some record passes
-abbrev pub any : {R : Type 0} → (R → Bool) → List R → Bool
-any p [] = false
-any p (r ∷ rs) = p r || any p rs
-
 -- no two of the first n records are of one property
 abbrev pub Apart : {R : Type 0} → (R → ℕ) → (R → Name) → List R → ℕ → Type 0
-Apart {R} owner called rs n = (k : ℕ) (d : R) → k < n → any (fits owner called (owner (slice_index_or rs k d)) (called (slice_index_or rs k d))) (take k rs) ≡ false
+Apart {R} owner called rs n = (j k : ℕ) (d : R) → j < n → k < n → owner (slice_index_or rs j d) ≡ owner (slice_index_or rs k d) → called (slice_index_or rs j d) ≡ called (slice_index_or rs k d) → j ≡ k

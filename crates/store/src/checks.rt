@@ -3,7 +3,7 @@ ghost use Rattle.std.specs.Prelude.{◌≡◌};
 ghost use Rattle.store.specs.Meaning.{get_test, put_test};
 
 use crate::value::Value;
-use lexer::name::methods::is_lawful;
+use lexer::name::is_lawful;
 use lexer::refusal::Reason;
 
 /// The tests of a get among so many objects.
@@ -29,12 +29,10 @@ pub fn check_put(
 ) -> Result<(), Reason>
     ensures { result ≡ put_test objects left object name.now value }
 {
-    if object >= objects || !value.is_inside(objects) {
+    if !value.is_inside(objects) {
         return Err(Reason::Object);
     }
-    if !is_lawful(name) {
-        return Err(Reason::Name);
-    }
+    check_get(objects, object, name)?;
     if left == 0 {
         return Err(Reason::Full);
     }

@@ -22,11 +22,5 @@ pub fn last_of<R: Record>(records: &[R], object: u16, name: &[u8]) -> Option<usi
     ensures place { result ≡ last_place (fits R.owner R.called object name.now) records.now }
     ensures last { Found (fits R.owner R.called object name.now) records.now result }
 {
-    for i in (0..records.len()).rev() {
-        let record = &records[i];
-        if record.object() == object && record.name() == name {
-            return Some(i);
-        }
-    }
-    None
+    records.iter().rposition(|record| record.object() == object && record.name() == name)
 }

@@ -8,18 +8,12 @@ use lexer::refusal::Reason;
 /// A store of an object graph. It means a number of objects, a graph and a number of writes left; each call says what it
 /// answers and leaves by this meaning.
 pub trait Store {
+    /// What the store means.
     ghost means: { Self → Meaning };
 
-    // Each store gives the proof that what it means is lawful.
-    ghost lawful: { (s : Self) → Lawful (means s) };
-
-    // A relation between a store before and after, which every put keeps: with it a store that borrows says that its
-    // reference is still the one that was lent.
+    /// A relation between a store before and after, which every put keeps: with it a store that borrows says that its
+    /// reference is still the one that was lent.
     ghost stays: { Self → Self → Type 0 };
-
-    ghost still: { (s : Self) → stays s s };
-
-    ghost chains: { (s t u : Self) → stays s t → stays t u → stays s u };
 
     /// The number of objects.
     fn count(&self) -> u16
@@ -28,6 +22,9 @@ pub trait Store {
     /// The number of writes left.
     fn left(&self) -> usize
         ensures { result ≡ (means self.now).left };
+
+    // An object and a name stand side by side, here and in all that serves these calls: a struct of the two would be made at
+    // each call only to be taken apart in it.
 
     /// The value of a property. Refuses `Object`, then `Name`.
     fn get(&self, object: u16, name: &[u8]) -> Result<Value, Reason>
@@ -39,4 +36,12 @@ pub trait Store {
         ensures answer { result ≡ put_answer (means self.old) object name.now value }
         ensures after { means self.new ≡ put_after (means self.old) object name.now value }
         ensures stays { stays self.old self.new };
+
+    // What a store means is lawful.
+    ghost lawful: { (s : Self) → Lawful (means s) };
+
+    // The relation holds where nothing was put, and over one put after another.
+    ghost still: { (s : Self) → stays s s };
+
+    ghost chains: { (s t u : Self) → stays s t → stays t u → stays s u };
 }

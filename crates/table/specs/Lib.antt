@@ -1,3 +1,4 @@
-pub mod Cells
+pub use Rattle.store.specs.Cells
 pub mod Kept
 pub mod Tables
+pub mod Usable

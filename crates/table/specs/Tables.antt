@@ -1,11 +1,11 @@
 -- What a table means.
 use Rattle.std.specs.Prelude.{◌≡◌, ℕ, min, max, List, length, take, drop, Option}
 use Rattle.lexer.specs.Names.{Name}
+use Rattle.store.specs.Cells.{owner, called, value_of, graph_over}
 use Rattle.store.specs.Meaning.{Graph, Meaning}
-use Rattle.store.specs.Records.{fits, last_place, latest}
+use Rattle.store.specs.Records.{fits, last_place}
+use Rattle.store.specs.declared.cell.Cell.{Cell}
 use Rattle.store.specs.declared.value.Value.TheVariants.{Nothing}
-use Rattle.table.specs.Cells.{owner, called, value_of}
-use Rattle.table.specs.declared.cell.Cell.{Cell}
 use Rattle.table.specs.declared.node_table.NodeTable.{NodeTable}
 
 -- the used cells
@@ -14,7 +14,7 @@ used_of t = take t.used t.cells.now
 
 -- the graph that is kept in cells
 abbrev pub graph_of : List Cell → Graph
-graph_of cells o n = latest value_of (fits owner called o n) cells Nothing
+graph_of = graph_over value_of (λ o n. Nothing)
 
 abbrev pub means_of : NodeTable → Meaning
 means_of t = record { objects = t.objects; graph = graph_of (used_of t); left = t.left }

@@ -1,9 +1,10 @@
-use Rattle.std.proofs.Common.{◌≡◌, ◌≤◌, drop}
+use Rattle.std.proofs.Common.{◌≡◌, ◌≤◌, length, drop}
 use Rattle.automaton.specs.Passes.{run}
-use Rattle.automaton.specs.Tells.{pass_of, begun}
+use Rattle.automaton.specs.States.{pass_of}
+use Rattle.automaton.specs.Tells.{begun}
 use Rattle.automaton.proofs.pass.pass.Given as goal
 
 abbrev pub invariant-loop-operation : goal.invariant-loop-operation
 invariant-loop-operation l =
-    (l.state.height ≤ l.operation-index)
+    (length l.state.operands.entries ≤ l.operation-index)
     × (run (drop l.operation-index l.operations) (pass_of l.state) ≡ run l.operations (begun l.from l.initial.state.follow))

@@ -1,4 +1,4 @@
-use Rattle.automaton.proofs.Positions.{positions_tell_the_empty_path}
+use Rattle.automaton.proofs.Rests.{positions_tell_the_empty_path}
 use Rattle.automaton.proofs.theorems.positions_tell_the_empty_path.Goals as goal
 
 pub returns : goal.returns

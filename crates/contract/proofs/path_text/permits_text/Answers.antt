@@ -3,7 +3,7 @@ use Rattle.std.proofs.lemmas.Bool.{eqb-true, eqb-false}
 use Rattle.contract.specs.PathTexts.{spell, permitted, path}
 use Rattle.contract.proofs.Spelled.{from_start, empty_text, starts_name, wrong_start, ends_name, goes_on, wrong_byte, too_long, ends_text, ends_wrong, permitted_starting}
 use Rattle.contract.proofs.path_text.permits_text.Goals as goal
-use Rattle.contract.proofs.path_text.permits_text.Goals.{then-not-is_classed-2-via-then-not-is_classed-2, then-not-is_classed-2-via-else-not-is_classed-2+then-i-from-ge-MAX_NAME, then-i-from+else-not-is_classed, else-i-from+then-b-eq46, else-i-from+else-b-eq46+else-not-is_classed-2+else-i-from-ge-MAX_NAME}
+use Rattle.contract.proofs.path_text.permits_text.Goals.{then-not-is_classed-2-via-then-not-is_classed-2, then-not-is_classed-2-via-else-not-is_classed-2+then-place-from-ge-MAX_NAME, then-place-from+else-not-is_classed, else-place-from+then-b-eq46, else-place-from+else-b-eq46+else-not-is_classed-2+else-place-from-ge-MAX_NAME}
 
 pub returns-then-is_empty : goal.returns-then-is_empty
 returns-then-is_empty g c =
@@ -13,8 +13,8 @@ returns-then-is_empty g c =
     ap Ok c.permission_at.ensures ∙ ap (λ r. permitted (k.terms own r) (path [])) c.start-at.ensures
     ∙ ap (permitted (k.terms own (k.starts own))) (sym (empty_text c.args.text.now none))
 
-pub loop-i-init : goal.loop-i-init
-loop-i-init g c =
+pub loop-place-init : goal.loop-place-init
+loop-place-init g c =
     let k = g.C.Contract in
     let own = c.args.contract.now in
     let some : 0 < length c.args.text.now = omega (arith, eqb-false _ _ (sym c.if-is_empty.ensures)) in (
@@ -27,49 +27,49 @@ pub returns-then-not-is_classed : goal.returns-then-not-is_classed
 returns-then-not-is_classed g c =
     let k = g.C.Contract in
     let own = c.args.contract.now in
-    sym (ap (permitted (k.terms own c.loop-i.at)) (wrong_start c.args.text.now c.loop-i.from c.loop-i.i c.loop-i-test.true (sym c.if-i-from.true) (sym c.if-not-is_classed.ensures)))
-    ∙ c.loop-i.invariant.1
+    sym (ap (permitted (k.terms own c.loop-place.at)) (wrong_start c.args.text.now c.loop-place.from c.loop-place.place c.loop-place-test.true (sym c.if-place-from.true) (sym c.if-not-is_classed.ensures)))
+    ∙ c.loop-place.invariant.1
 
 pub returns-then-not-is_classed-2 : goal.returns-then-not-is_classed-2
 returns-then-not-is_classed-2 g c =
     let k = g.C.Contract in
     let own = c.args.contract.now in
-    let low = c.loop-i.invariant.0 in
-    let inside : c.loop-i.from < c.loop-i.i = omega (arith, c.if-i-from.false) in
-    sym (ap (permitted (k.terms own c.loop-i.at)) (elim c.then-not-is_classed-2.branch [
-      | then-not-is_classed-2-via-then-not-is_classed-2 w ↦ wrong_byte c.args.text.now c.loop-i.from c.loop-i.i c.loop-i-test.true inside c.if-b-eq46.false (sym c.is_classed-else-b-eq46.ensures ∙ w.if-not-is_classed-2.true)
-      | then-not-is_classed-2-via-else-not-is_classed-2+then-i-from-ge-MAX_NAME w ↦ too_long c.args.text.now c.loop-i.from c.loop-i.i c.loop-i-test.true inside c.if-b-eq46.false w.if-i-from-ge-MAX_NAME.true
+    let low = c.loop-place.invariant.0 in
+    let inside : c.loop-place.from < c.loop-place.place = omega (arith, c.if-place-from.false) in
+    sym (ap (permitted (k.terms own c.loop-place.at)) (elim c.then-not-is_classed-2.branch [
+      | then-not-is_classed-2-via-then-not-is_classed-2 w ↦ wrong_byte c.args.text.now c.loop-place.from c.loop-place.place c.loop-place-test.true inside c.if-b-eq46.false (sym c.is_classed-else-b-eq46.ensures ∙ w.if-not-is_classed-2.true)
+      | then-not-is_classed-2-via-else-not-is_classed-2+then-place-from-ge-MAX_NAME w ↦ too_long c.args.text.now c.loop-place.from c.loop-place.place c.loop-place-test.true inside c.if-b-eq46.false w.if-place-from-ge-MAX_NAME.true
     ]))
-    ∙ c.loop-i.invariant.1
+    ∙ c.loop-place.invariant.1
 
-pub loop-i-preserved : goal.loop-i-preserved
-loop-i-preserved g c =
+pub loop-place-preserved : goal.loop-place-preserved
+loop-place-preserved g c =
     let k = g.C.Contract in
     let own = c.args.contract.now in
     let text = c.args.text.now in
-    let i = c.loop-i.i in
-    let from = c.loop-i.from in
-    let low = c.loop-i.invariant.0 in
+    let i = c.loop-place.place in
+    let from = c.loop-place.from in
+    let low = c.loop-place.invariant.0 in
     let goal = λ (at : g.row.C-Residue.Denot) (start : ℕ). permitted (k.terms own at) (spell (i + 1) (take (i + 1 - start) (drop start text)) (drop (i + 1) text)) in
-    elim c.if-i-from.branch [
-      | then-i-from+else-not-is_classed w ↦ (
+    elim c.if-place-from.branch [
+      | then-place-from+else-not-is_classed w ↦ (
         omega (arith, w.from-is),
         (λ j. goal (w.at-is j) (w.from-is j))
-            ∙ sym (ap (permitted (k.terms own c.loop-i.at)) (starts_name text from i c.loop-i-test.true (sym w.if-i-from.true) (sym w.is_classed.ensures ∙ w.if-not-is_classed.false)))
-            ∙ c.loop-i.invariant.1,
+            ∙ sym (ap (permitted (k.terms own c.loop-place.at)) (starts_name text from i c.loop-place-test.true (sym w.if-place-from.true) (sym w.is_classed.ensures ∙ w.if-not-is_classed.false)))
+            ∙ c.loop-place.invariant.1,
       )
-      | else-i-from+then-b-eq46 w ↦ (
+      | else-place-from+then-b-eq46 w ↦ (
         omega (arith, w.from-is),
         (λ j. goal (w.at-is j) (w.from-is j))
             ∙ ap (λ t. permitted t (spell (i + 1) (take (i + 1 - (i + 1)) (drop (i + 1) text)) (drop (i + 1) text))) w.step-at.ensures
-            ∙ sym (ap (permitted (k.terms own c.loop-i.at)) (ends_name text from i c.loop-i-test.true (omega (arith, w.if-i-from.false)) w.if-b-eq46.true) ∙ permitted_starting _ _ _)
-            ∙ c.loop-i.invariant.1,
+            ∙ sym (ap (permitted (k.terms own c.loop-place.at)) (ends_name text from i c.loop-place-test.true (omega (arith, w.if-place-from.false)) w.if-b-eq46.true) ∙ permitted_starting _ _ _)
+            ∙ c.loop-place.invariant.1,
       )
-      | else-i-from+else-b-eq46+else-not-is_classed-2+else-i-from-ge-MAX_NAME w ↦ (
+      | else-place-from+else-b-eq46+else-not-is_classed-2+else-place-from-ge-MAX_NAME w ↦ (
         omega (arith, w.from-is),
         (λ j. goal (w.at-is j) (w.from-is j))
-            ∙ sym (ap (permitted (k.terms own c.loop-i.at)) (goes_on text from i c.loop-i-test.true (omega (arith, w.if-i-from.false)) w.if-b-eq46.false (sym w.is_classed-else-b-eq46.ensures ∙ w.if-not-is_classed-2.false) w.if-i-from-ge-MAX_NAME.false))
-            ∙ c.loop-i.invariant.1,
+            ∙ sym (ap (permitted (k.terms own c.loop-place.at)) (goes_on text from i c.loop-place-test.true (omega (arith, w.if-place-from.false)) w.if-b-eq46.false (sym w.is_classed-else-b-eq46.ensures ∙ w.if-not-is_classed-2.false) w.if-place-from-ge-MAX_NAME.false))
+            ∙ c.loop-place.invariant.1,
       )
     ]
 
@@ -77,21 +77,21 @@ pub returns-then-from-text : goal.returns-then-from-text
 returns-then-from-text g c =
     let k = g.C.Contract in
     let own = c.args.contract.now in
-    let low = c.loop-i.invariant.0 in
-    let end : c.loop-i.i ≡ length c.args.text.now = omega arith in
-    let same : c.loop-i.from ≡ c.loop-i.i = omega (arith, c.if-from-text.true) in
-    ap Err (sym end)
-    ∙ sym (ap (permitted (k.terms own c.loop-i.at)) (ends_wrong c.args.text.now c.loop-i.from c.loop-i.i c.loop-i-test.false same)) ∙ c.loop-i.invariant.1
+    let low = c.loop-place.invariant.0 in
+    let end : c.loop-place.place ≡ length c.args.text.now = omega arith in
+    let same : c.loop-place.from ≡ c.loop-place.place = omega (arith, c.if-from-text.true) in
+    ap (λ n. Err (record { place = n })) (sym end)
+    ∙ sym (ap (permitted (k.terms own c.loop-place.at)) (ends_wrong c.args.text.now c.loop-place.from c.loop-place.place c.loop-place-test.false same)) ∙ c.loop-place.invariant.1
 
 pub returns : goal.returns
 returns g c =
     let k = g.C.Contract in
     let own = c.args.contract.now in
     let text = c.args.text.now in
-    let from = c.loop-i.from in
-    let end : c.loop-i.i ≡ length c.args.text.now = omega arith in
-    let inside : c.loop-i.from < c.loop-i.i = omega (arith, c.if-from-text.false) in
+    let from = c.loop-place.from in
+    let end : c.loop-place.place ≡ length c.args.text.now = omega arith in
+    let inside : c.loop-place.from < c.loop-place.place = omega (arith, c.if-from-text.false) in
     ap Ok c.permission_at-2.ensures ∙ ap (λ t. permitted t (path [])) c.step.ensures
-    ∙ sym (permitted_starting (k.terms own c.loop-i.at) (take (length text - from) (drop from text)) (path []))
-    ∙ ap (λ n. permitted (k.terms own c.loop-i.at) (path (take (n - from) (drop from text) ∷ []))) (sym end)
-    ∙ sym (ap (permitted (k.terms own c.loop-i.at)) (ends_text text from c.loop-i.i c.loop-i-test.false (omega arith) inside)) ∙ c.loop-i.invariant.1
+    ∙ sym (permitted_starting (k.terms own c.loop-place.at) (take (length text - from) (drop from text)) (path []))
+    ∙ ap (λ n. permitted (k.terms own c.loop-place.at) (path (take (n - from) (drop from text) ∷ []))) (sym end)
+    ∙ sym (ap (permitted (k.terms own c.loop-place.at)) (ends_text text from c.loop-place.place c.loop-place-test.false (omega arith) inside)) ∙ c.loop-place.invariant.1

@@ -5,12 +5,12 @@ use Rattle.expression.proofs.parser.read_text.Goals as goal
 pub returns-in_err-alternative : goal.returns-in_err-alternative
 returns-in_err-alternative c =
     let x = err_from_is_err_and c.from_residual.result c.from_residual.ensures.1 in
-    rw (x.1, x.2) (text_refused _ _ c.new-reader.ensures.text c.new-reader.ensures.place c.new-reader.ensures.language c.in_err-alternative.ensures)
+    rw (x.1, x.2) (text_refused _ _ c.new.ensures.text c.new.ensures.place c.new.ensures.language c.in_err-alternative.ensures.parsed)
 
 pub returns-in-End : goal.returns-in-End
 returns-in-End c =
-    text_read _ _ c.new-reader.ensures.text c.new-reader.ensures.place c.new-reader.ensures.language c.new-out.ensures.operations c.in_ok-alternative.ensures c.peek-next.result c.peek-next.ensures.is c.in-End.is
+    text_read _ _ c.new.ensures.text c.new.ensures.place c.new.ensures.language c.new-2.ensures.entries c.in_ok-alternative.ensures.parsed c.peek-next.result c.peek-next.ensures.is c.in-End.is
 
 pub returns-in_default : goal.returns-in_default
 returns-in_default c =
-    text_goes_on _ _ c.new-reader.ensures.text c.new-reader.ensures.place c.new-reader.ensures.language c.new-out.ensures.operations c.in_ok-alternative.ensures c.peek-next.result c.peek-next.ensures.is c.in_default.not-End c.misplaced.ensures.reason c.misplaced.ensures.place
+    text_goes_on _ _ c.new.ensures.text c.new.ensures.place c.new.ensures.language c.new-2.ensures.entries c.in_ok-alternative.ensures.parsed c.peek-next.result c.peek-next.ensures.is c.in_default.not-End c.misplaced.ensures.reason c.misplaced.ensures.place

@@ -1,21 +1,13 @@
-use Rattle.std.proofs.Common.{refl, ap, ◌∙◌}
-use Rattle.std.proofs.lemmas.Bool.{false≢true}
+use Rattle.std.proofs.Common.{ap, ◌∙◌}
 use Rattle.expression.specs.Held.{read_tree, write_tree}
-use Rattle.contract.specs.ExpressionTerms.{start_terms, by_trees, renewed, refusal_in}
-use Rattle.contract.specs.Opened.{given_terms}
+use Rattle.contract.specs.ExpressionTerms.{start_terms, by_trees, renewed}
+use Rattle.contract.specs.Opened.{given_terms, starts_open}
 use Rattle.contract.proofs.expressions.Expression.read.Goals as goal
 
-pub returns-in-Ok : goal.returns-in-Ok
-returns-in-Ok c = record {
-  told = ap refusal_in c.in-Ok.ensures;
-  after = given_terms c.new-self.result ∙ ap (λ t. by_trees (read_tree t) (write_tree t)) c.new-self.ensures
-      ∙ ap (renewed (start_terms c.args.self.now)) c.in-Ok.ensures;
-  kept = λ h. absurd (false≢true h);
-}
+pub invariant_of-self : goal.invariant_of-self
+invariant_of-self c = record { opens = starts_open c.new.result c.starts.result c.starts.ensures }
 
-pub returns-in-Err : goal.returns-in-Err
-returns-in-Err c = record {
-  told = ap refusal_in c.in-Err.ensures;
-  after = ap (renewed (start_terms c.args.self.now)) c.in-Err.ensures;
-  kept = λ _. refl;
-}
+pub returns-clause-after : goal.returns-clause-after
+returns-clause-after c =
+    given_terms c.new.result c.starts.result c.starts.ensures ∙ ap (λ t. by_trees (read_tree t) (write_tree t)) c.new.ensures
+    ∙ ap (renewed (start_terms c.args.self.now)) c.in_ok-trees.ensures

@@ -1,22 +1,21 @@
-use Rattle.std.proofs.Common.{◌≡◌, ◌-◌, [], ◌∷◌, ◌++◌, take, drop, ap, ◌∙◌, arith}
-use Rattle.expression.specs.Tables.{operations_of, letters_of, formed, build}
+use Rattle.std.proofs.Common.{◌≡◌, cond, ltb, List, [], ◌∷◌, ◌++◌, map, length, take, drop, ap, ◌∙◌}
+use Rattle.expression.specs.Tables.{letter_of, formed, build}
+use Rattle.expression.specs.declared.operation.Operation.{Operation}
 use Rattle.expression.specs.declared.operation.Operation.TheVariants.{Empty}
 use Rattle.expression.proofs.trees.Trees.empty.Goals as goal
 
-one : (c : goal.After-new) → operations_of c.push.new.self ≡ Empty ∷ []
-one c = c.push.ensures.operations ∙ ap (λ os. os ++ (Empty ∷ [])) c.new-one.ensures.operations
+-- one operation in a row that had none
+one : {os us : List Operation} → us ≡ cond (ltb (length os) 400) (os ++ Empty ∷ []) os → os ≡ [] → us ≡ Empty ∷ []
+one pushed none = pushed ∙ ap (λ os. cond (ltb (length os) 400) (os ++ Empty ∷ []) os) none
 
-pub invariant_of-result : goal.invariant_of-result
+pub invariant_of-read : goal.invariant_of-read
 unfolding formed
-invariant_of-result c = record {
-  few = omega arith;
-  reads = ap (λ os. formed os 0 0) (one c);
-  writes = λ i. formed (one c i) (c.new.ensures.used i - 0) 0;
-}
+invariant_of-read c = record { formed = ap (λ os. formed os 0 0) (one c.push.ensures.entries c.new-operations.ensures.entries) }
 
-pub returns : goal.returns
+pub returns-clause-reads : goal.returns-clause-reads
 unfolding build
-returns c = record {
-  reads = (λ i. build ((c.push.ensures.operations ∙ ap (λ os. os ++ (Empty ∷ [])) c.new-one.ensures.operations) i) (take 0 (letters_of c.new.result)) []);
-  writes = (λ i. build ((c.push.ensures.operations ∙ ap (λ os. os ++ (Empty ∷ [])) c.new-one.ensures.operations) i) (drop 0 (letters_of c.new.result)) []);
-}
+returns-clause-reads c = ap (λ os. build os (take 0 (map letter_of c.new.result.entries)) []) (one c.push.ensures.entries c.new-operations.ensures.entries)
+
+pub returns-clause-writes : goal.returns-clause-writes
+unfolding build
+returns-clause-writes c = ap (λ os. build os (drop 0 (map letter_of c.new.result.entries)) []) (one c.push.ensures.entries c.new-operations.ensures.entries)

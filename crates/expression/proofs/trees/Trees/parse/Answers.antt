@@ -1,27 +1,52 @@
-use Rattle.expression.proofs.Rebuilt.{read_built, write_built, few_reads, reads_formed, writes_formed, read_long, write_long, read_refused, write_refused, contract_read}
+use Rattle.std.proofs.Common.{◌-◌, map, sym, ap, ◌∙◌}
+use Rattle.std.proofs.lemmas.List.{length-map}
+use Rattle.std.proofs.lemmas.Result.{err_from_is_err_and}
+use Rattle.expression.specs.Tables.{letter_of, formed}
+use Rattle.expression.proofs.Rebuilt.{brief_if, read_built, write_built, reads_formed, writes_formed, read_long, write_long, read_refused, write_refused, contract_read}
 use Rattle.expression.proofs.trees.Trees.parse.Goals as goal
 
-pub returns-then-read-gt-MAX_TEXT : goal.returns-then-read-gt-MAX_TEXT
-returns-then-read-gt-MAX_TEXT c = read_long _ _ c.if-read-gt-MAX_TEXT.true
+pub returns-in_err-check_length : goal.returns-in_err-check_length
+returns-in_err-check_length c =
+    let x = err_from_is_err_and c.from_residual.result c.from_residual.ensures.1 in
+    rw (x.1, x.2) (read_long _ _ c.in_err-check_length.ensures)
 
-pub returns-then-write-gt-MAX_TEXT : goal.returns-then-write-gt-MAX_TEXT
-returns-then-write-gt-MAX_TEXT c = write_long _ _ c.if-read-gt-MAX_TEXT.false c.if-write-gt-MAX_TEXT.true
+pub returns-in_err-check_length-2 : goal.returns-in_err-check_length-2
+returns-in_err-check_length-2 c =
+    let x = err_from_is_err_and c.from_residual-in_err-check_length-2.result c.from_residual-in_err-check_length-2.ensures.1 in
+    rw (x.1, x.2) (write_long _ _ (brief_if _ _ c.in_ok-check_length.ensures) c.in_err-check_length-2.ensures)
 
-pub returns-in-Err : goal.returns-in-Err
-returns-in-Err c = read_refused _ _ c.if-read-gt-MAX_TEXT.false c.if-write-gt-MAX_TEXT.false c.new-letters.result c.new-letters.ensures.used c.in_text.ensures c.in-Err.ensures
+pub returns-in_err-operations : goal.returns-in_err-operations
+returns-in_err-operations c =
+    let x = err_from_is_err_and c.from_residual-in_err-operations.result c.from_residual-in_err-operations.ensures.1 in
+    rw (x.1, x.2)
+    (read_refused _ _ (brief_if _ _ c.in_ok-check_length.ensures) (brief_if _ _ c.in_ok-check_length-2.ensures) _ (ap (map letter_of) c.new.ensures.entries) c.in_err-operations.ensures)
 
-pub returns-in-Err-read_text : goal.returns-in-Err-read_text
-returns-in-Err-read_text c = write_refused _ _ c.if-read-gt-MAX_TEXT.false c.if-write-gt-MAX_TEXT.false c.new-letters.result c.new-letters.ensures.used c.in_text-in-Err-read_text.ensures c.in-Ok.ensures c.in-Err-read_text.ensures
+pub returns-in_err-operations-2 : goal.returns-in_err-operations-2
+returns-in_err-operations-2 c =
+    let x = err_from_is_err_and c.from_residual-in_err-operations-2.result c.from_residual-in_err-operations-2.ensures.1 in
+    rw (x.1, x.2)
+    (write_refused _ _ (brief_if _ _ c.in_ok-check_length.ensures) (brief_if _ _ c.in_ok-check_length-2.ensures) _ (ap (map letter_of) c.new.ensures.entries) c.in_ok-operations.ensures c.in_err-operations-2.ensures)
 
-pub invariant_of-result : goal.invariant_of-result
-invariant_of-result c = record {
-  few = few_reads c.new-letters.ensures.letters c.in-Ok.ensures c.in-Ok-read_text.ensures c.len-read_letters.result c.len-read_letters.ensures.used;
-  reads = reads_formed c.new-letters.ensures.letters c.in-Ok.ensures c.in-Ok-read_text.ensures c.len-read_letters.result c.len-read_letters.ensures.used;
-  writes = writes_formed c.new-letters.ensures.letters c.in-Ok.ensures c.in-Ok-read_text.ensures c.len-read_letters.result c.len-read_letters.ensures.used;
+pub invariant_of-first : goal.invariant_of-first
+invariant_of-first c = record {
+  formed =
+      reads_formed (ap (map letter_of) c.new.ensures.entries) c.in_ok-operations.ensures c.in_ok-operations-2.ensures c.len.result
+      (c.len.ensures.value ∙ sym (length-map c.in_ok-operations.letters.entries letter_of));
+}
+
+pub invariant_of-second : goal.invariant_of-second
+invariant_of-second c = record {
+  formed =
+      ap (λ n. formed c.in_ok-operations-2.operations.entries (n - c.len.result) 0)
+      (c.len-2.ensures.value ∙ sym (length-map c.in_ok-operations-2.letters.entries letter_of))
+      ∙ writes_formed (ap (map letter_of) c.new.ensures.entries) c.in_ok-operations.ensures c.in_ok-operations-2.ensures c.len.result
+      (c.len.ensures.value ∙ sym (length-map c.in_ok-operations.letters.entries letter_of));
 }
 
 pub returns : goal.returns
 returns c =
-    contract_read _ _ c.if-read-gt-MAX_TEXT.false c.if-write-gt-MAX_TEXT.false c.new-letters.result c.new-letters.ensures.used c.in-Ok.ensures c.in-Ok-read_text.ensures
-    (read_built c.new-letters.ensures.letters c.in-Ok.ensures c.in-Ok-read_text.ensures c.len-read_letters.result c.len-read_letters.ensures.used)
-    (write_built c.new-letters.ensures.letters c.in-Ok.ensures c.in-Ok-read_text.ensures c.len-read_letters.result c.len-read_letters.ensures.used)
+    let none = ap (map letter_of) c.new.ensures.entries in
+    let counted = c.len.ensures.value ∙ sym (length-map c.in_ok-operations.letters.entries letter_of) in
+    contract_read _ _ (brief_if _ _ c.in_ok-check_length.ensures) (brief_if _ _ c.in_ok-check_length-2.ensures) _ none c.in_ok-operations.ensures c.in_ok-operations-2.ensures
+    (read_built none c.in_ok-operations.ensures c.in_ok-operations-2.ensures c.len.result counted)
+    (write_built none c.in_ok-operations.ensures c.in_ok-operations-2.ensures c.len.result counted)

@@ -1,0 +1,13 @@
+-- What a state of the code tells of a pass.
+use Rattle.std.specs.Prelude.{List, map, reverse}
+use Rattle.automaton.specs.Passes.{Summary, Pass}
+use Rattle.automaton.specs.Tells.{summary_of, link_of}
+use Rattle.automaton.specs.declared.facts.Facts.{Facts}
+use Rattle.automaton.specs.declared.pass.State.{State}
+
+-- what is known of the operands, the last first
+abbrev pub piled : List Facts → List Summary
+piled fs = map summary_of (reverse fs)
+
+abbrev pub pass_of : State → Pass
+pass_of s = record { pile = piled s.operands.entries; count = s.count; link = link_of s.follow }
