@@ -20,7 +20,9 @@ pub struct Automaton {
     trees: Trees,
     reads: Facts,
     writes: Facts,
-    follow: [Positions; MAX_LETTERS],
+    // Numbers, and not `Positions`: of an array of these no proof is made where another crate takes an `Expression` out of a
+    // `Result`.
+    follow: [u64; MAX_LETTERS],
     ghost read: { Tells reads (read_tree trees) 0 },
     ghost write: { Tells writes (write_tree trees) (size (read_tree trees)) },
     ghost links: { (x y : ℕ) → x < 62 → link_of follow x y ≡ (may_follow (read_tree trees) 0 x y || may_follow (write_tree trees) (size (read_tree trees)) x y) },
@@ -34,7 +36,7 @@ impl Automaton {
     pub fn new(trees: Trees) -> Automaton
         ensures { trees_of result ≡ trees }
     {
-        let unlinked = [Positions::NONE; MAX_LETTERS];
+        let unlinked = [0; MAX_LETTERS];
         let reads = pass(trees.operations(Text::Read), 0, unlinked);
         let from = trees.letter_count(Text::Read);
         let writes = pass(trees.operations(Text::Write), from, reads.follow);

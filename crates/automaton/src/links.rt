@@ -10,13 +10,13 @@ use expression::trees::MAX_LETTERS;
 
 /// The positions that may follow one of the marked positions.
 #[tactic(auto, using(crate::proofs::Masks::bit_of_zero, crate::proofs::Sums::some_zero, crate::proofs::Sums::some_more))]
-pub(crate) fn followers(follow: &[Positions; MAX_LETTERS], marked: Positions) -> Positions
+pub(crate) fn followers(follow: &[u64; MAX_LETTERS], marked: Positions) -> Positions
     ensures { Marks result (λ y. some 62 (λ x. bit marked x && link_of follow.now x y)) }
 {
     let mut all = Positions::NONE;
     for (i, next) in follow.iter().enumerate() {
         if marked.has(i) {
-            all |= *next;
+            all |= Positions::from(*next);
         }
     }
     all
@@ -24,12 +24,12 @@ pub(crate) fn followers(follow: &[Positions; MAX_LETTERS], marked: Positions) ->
 
 /// Lets each position of `to` follow each position of `from`.
 #[tactic(auto, using(std::proofs::lemmas::Bool::Decides::nat_tests))]
-pub(crate) fn link(follow: &mut [Positions; MAX_LETTERS], from: Positions, to: Positions)
+pub(crate) fn link(follow: &mut [u64; MAX_LETTERS], from: Positions, to: Positions)
     ensures { link_of follow.new ≡ linked (bit from) (bit to) (link_of follow.old) }
 {
     for (i, next) in follow.iter_mut().enumerate() {
         if from.has(i) {
-            *next |= to;
+            *next = (Positions::from(*next) | to).into();
         }
     }
 }

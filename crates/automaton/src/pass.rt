@@ -5,7 +5,6 @@ ghost use Rattle.automaton.specs.Tells.{summary_of, link_of, begun};
 
 use crate::facts::Facts;
 use crate::links::link;
-use crate::positions::Positions;
 use bounded::row::Row;
 use expression::operation::Operation;
 use expression::trees::{MAX_LETTERS, MAX_TEXT};
@@ -15,7 +14,7 @@ use expression::trees::{MAX_LETTERS, MAX_TEXT};
 struct State {
     operands: Row<Facts, MAX_TEXT>,
     count: usize,
-    follow: [Positions; MAX_LETTERS],
+    follow: [u64; MAX_LETTERS],
 }
 
 /// Takes the last two operands away, if there are two.
@@ -77,12 +76,12 @@ impl State {
 #[derive(Clone, Copy, PartialEq, Eq, Debug)]
 pub(crate) struct Found {
     pub(crate) facts: Facts,
-    pub(crate) follow: [Positions; MAX_LETTERS],
+    pub(crate) follow: [u64; MAX_LETTERS],
 }
 
 /// Passes over the operations of a tree, its positions numbered from `from` on, and adds to the links made so far.
 #[tactic(auto, using(crate::proofs::Piles::top_piled, crate::proofs::Runs::run_next, crate::proofs::Runs::run_end, crate::proofs::Runs::run_count))]
-pub(crate) fn pass(operations: &[Operation], from: usize, follow: [Positions; MAX_LETTERS]) -> Found
+pub(crate) fn pass(operations: &[Operation], from: usize, follow: [u64; MAX_LETTERS]) -> Found
     requires short { length operations.now ≤ 400 }
     requires few { (run operations.now (begun from follow)).count ≤ 62 }
     ensures facts { summary_of result.facts ≡ top (run operations.now (begun from follow)).pile }

@@ -1,8 +1,8 @@
 //! Worked examples.
-use crate::expression_of;
 use contract::both::Both;
 use contract::contract::Contract;
 use contract::depth::Depth;
+use contract::expressions::Expression;
 use contract::path_text::permits_text;
 use contract::permits::permits as permits_names;
 use expression::texts::Text;
@@ -12,6 +12,15 @@ use lexer::refusal::Reason;
 use lexer::token::Language;
 use parser::word::{Word, classify};
 use std::test::Fail;
+
+/// The contract by two texts, which can be read.
+fn by_texts(read: &[u8], write: &[u8]) -> Result<Expression, Fail> {
+    let mut contract = Expression::new();
+    match contract.read(read, write) {
+        Ok(_) => Ok(contract),
+        Err(_) => Err(Fail::new("the contract is refused")),
+    }
+}
 
 /// Whether a path may be read, and whether it may be written.
 fn permits<C: Contract>(contract: &C, path: &[u8]) -> Result<(bool, bool), Fail> {
@@ -23,7 +32,7 @@ fn permits<C: Contract>(contract: &C, path: &[u8]) -> Result<(bool, bool), Fail>
 
 #[test]
 fn a_star_repeats(rt: HostRuntime) -> Result<(), Fail> {
-    let contract = expression_of(b"a.b*", b"()");
+    let contract = by_texts(b"a.b*", b"()")?;
     assert_eq!(rt; permits(&contract, b"a.b.b")?, (true, false));
     assert_eq!(rt; permits(&contract, b"b")?, (false, false));
     Ok(())
@@ -31,7 +40,7 @@ fn a_star_repeats(rt: HostRuntime) -> Result<(), Fail> {
 
 #[test]
 fn an_alternative_repeats(rt: HostRuntime) -> Result<(), Fail> {
-    let contract = expression_of(b"(a|b.c)*", b"()");
+    let contract = by_texts(b"(a|b.c)*", b"()")?;
     assert_eq!(rt; permits(&contract, b"b.c.a")?, (true, false));
     assert_eq!(rt; permits(&contract, b"b.a")?, (false, false));
     Ok(())
@@ -40,8 +49,8 @@ fn an_alternative_repeats(rt: HostRuntime) -> Result<(), Fail> {
 #[test]
 fn both_permit_what_each_permits(rt: HostRuntime) -> Result<(), Fail> {
     let contract = Both {
-        left: expression_of(b"a.b", b"()"),
-        right: expression_of(b"a.c", b"()"),
+        left: by_texts(b"a.b", b"()")?,
+        right: by_texts(b"a.c", b"()")?,
     };
     assert_eq!(rt; permits(&contract, b"a")?, (true, false));
     assert_eq!(rt; permits(&contract, b"a.b")?, (false, false));
@@ -60,7 +69,7 @@ fn a_depth_counts_names(rt: HostRuntime) -> Result<(), Fail> {
 
 #[test]
 fn a_refused_reading_changes_nothing(rt: HostRuntime) -> Result<(), Fail> {
-    let mut contract = expression_of(b"a", b"a");
+    let mut contract = by_texts(b"a", b"a")?;
     match contract.read(b"b", b"b**") {
         Ok(_) => return Err(Fail::new("the contract was read")),
         Err(refusal) => {
@@ -78,10 +87,10 @@ fn a_refused_reading_changes_nothing(rt: HostRuntime) -> Result<(), Fail> {
 fn both_nest(rt: HostRuntime) -> Result<(), Fail> {
     let contract = Both {
         left: Both {
-            left: expression_of(b"a.b.c", b"a.b*"),
+            left: by_texts(b"a.b.c", b"a.b*")?,
             right: Depth { read: 2, write: 3 },
         },
-        right: expression_of(b"?*", b"a.b.b|a.b.b.b"),
+        right: by_texts(b"?*", b"a.b.b|a.b.b.b")?,
     };
     assert_eq!(rt; permits(&contract, b"")?, (true, false));
     assert_eq!(rt; permits(&contract, b"a.b")?, (true, false));
@@ -100,7 +109,7 @@ fn name(bytes: &[u8]) -> Result<Name, Fail> {
 
 #[test]
 fn paths_of_names_are_permitted(rt: HostRuntime) -> Result<(), Fail> {
-    let contract = expression_of(b"depot.?", b"depot.free");
+    let contract = by_texts(b"depot.?", b"depot.free")?;
     let names = [name(b"depot")?, name(b"free")?];
     let path = &names[..];
     let whole = permits_names(&contract, path);

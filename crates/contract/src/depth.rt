@@ -40,16 +40,10 @@ impl Contract for Depth {
     }
 
     fn readable(&self, at: Option<u8>) -> bool {
-        match at {
-            Some(passed) => passed <= self.read,
-            None => false,
-        }
+        at.is_some_and(|passed| passed <= self.read)
     }
 
     fn writable(&self, at: Option<u8>) -> bool {
-        match at {
-            Some(passed) => 1 <= passed && passed <= self.write,
-            None => false,
-        }
+        at.is_some_and(|passed| 1 <= passed && passed <= self.write)
     }
 }

@@ -123,8 +123,7 @@ fn sign_at<'a>(text: &'a [u8], start: usize) -> Placed<'a>
     ensures is { lexed_of result ≡ signed start (slice_index text.now start) (drop (start + 1) text.now) }
     ensures lies { Lies text.now start result }
 {
-    let first = text[start];
-    if first == b'=' && start + 1 < text.len() && text[start + 1] == b'=' {
+    if text[start..].starts_with(b"==") {
         return Placed {
             token: Token::Equals,
             start,
@@ -132,7 +131,7 @@ fn sign_at<'a>(text: &'a [u8], start: usize) -> Placed<'a>
         };
     }
     Placed {
-        token: Token::Sign(first),
+        token: Token::Sign(text[start]),
         start,
         stop: start + 1,
     }
