@@ -1,5 +1,7 @@
 -- What the program writes before a path.
-use Rattle.std.specs.Prelude.{ℕ, Bool, true, false, List, ◌++◌, codes, decimal}
+use Rattle.std.specs.Prelude.{ℕ, Bool, true, false, List, ◌++◌, codes}
+use Rattle.contract.specs.NoPaths.{told}
+use Rattle.contract.specs.declared.path_text.NoPath.{NoPath}
 
 -- before a path: whether it may be read, and whether it may be written
 abbrev pub marks_text : Bool → Bool → List ℕ
@@ -9,5 +11,5 @@ marks_text false true = codes "- write "
 marks_text false false = codes "- - "
 
 -- before a line that is no path
-abbrev pub wrong_text : ℕ → List ℕ
-wrong_text place = codes "no path at " ++ (decimal place ++ codes ": ")
+abbrev pub wrong_text : NoPath → List ℕ
+wrong_text x = told x ++ codes ": "

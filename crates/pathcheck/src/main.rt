@@ -26,7 +26,7 @@ fn marks(permission: Permission) -> &'static str
 
 /// What stands before a line that is no path.
 fn wrong(heap: Global, no_path: NoPath) -> Result<String, AllocError>
-    ensures { IfOk result (λ s. string_bytes s ≡ wrong_text no_path.place) }
+    ensures { IfOk result (λ s. string_bytes s ≡ wrong_text no_path) }
 {
     format!(in heap; "{no_path}: ")
 }
