@@ -9,7 +9,8 @@ use bounded::row::Row;
 use expression::operation::Operation;
 use expression::trees::{MAX_LETTERS, MAX_TEXT};
 
-/// The facts of the operands, the letters counted, and the positions that may follow each position.
+/// The facts of the operands, the letters counted, and the positions that may follow each position: these as the numbers that
+/// an `Automaton` holds.
 #[derive(Clone, Copy)]
 struct State {
     operands: Row<Facts, MAX_TEXT>,

@@ -7,6 +7,7 @@ pub struct Span {
     pub length: usize,
 }
 
+/// `+`, `-`, `*`, `<` and `==`.
 #[derive(Clone, Copy, PartialEq, Eq, Debug)]
 pub enum Operator {
     Plus,
