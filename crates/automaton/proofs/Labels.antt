@@ -2,6 +2,7 @@
 use Rattle.std.proofs.Common.{◌≡◌, ℕ, ◌+◌, ◌≤◌, true, List, [], ◌++◌, map, length, get_or, sym, refl, ap, ◌∙◌, subst, append_assoc, append-nil, arith, length-append}
 use lib.ListN.{get_or-map, length-map}
 use lib.Seq.{get_or_at}
+use Rattle.bounded.specs.Rows.{entries_of}
 use Rattle.lexer.specs.Names.{Name, lawful}
 use Rattle.lexer.specs.Spelled.{spelled}
 use Rattle.std.proofs.lemmas.Slice.Eq.{bytes_eq-Decides}
@@ -68,7 +69,7 @@ module _ (held : List Held) (a b : Expr) (are : map letter_of held ≡ leaves a 
 
 -- the letters of two trees
 abbrev pub held_by : Trees → List Held
-held_by t = t.letters.entries
+held_by t = entries_of t.letters
 
 -- there are at most 62
 pub few_letters : (t : Trees) → size (read_tree t) + size (write_tree t) ≤ 62
@@ -79,7 +80,7 @@ few_letters t =
       size_is (write_tree t),
       length-append (leaves (read_tree t)) (leaves (write_tree t)),
       ap length (letters_are t),
-      length-map t.letters.entries letter_of,
+      length-map (entries_of t.letters) letter_of,
       t.few,
     )
 

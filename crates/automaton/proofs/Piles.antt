@@ -32,16 +32,16 @@ pub piled_two : (fs : List Facts) (f g : Facts) → piled (fs ++ f ∷ g ∷ [])
 piled_two fs f g = ap (map summary_of) (reverse-append fs (f ∷ (g ∷ [])))
 
 -- the facts of the empty tree
-pub empty_told : summary_of (record { nullable = true; first = 0; last = 0 }) ≡ of_empty
+pub empty_told : summary_of (record { nullable = true; first = record { mask = 0 }; last = record { mask = 0 } }) ≡ of_empty
 empty_told = λ i. record { nullable = true; first = λ x. bit_of_zero x i; last = λ x. bit_of_zero x i }
 
 -- the last operand, and the facts of the empty tree where there is none
 pub top_piled : (fs : List Facts)
-    → top (piled fs) ≡ summary_of (unwrap_or (slice_get fs (length fs - 1)) (record { nullable = true; first = 0; last = 0 }))
+    → top (piled fs) ≡ summary_of (unwrap_or (slice_get fs (length fs - 1)) (record { nullable = true; first = record { mask = 0 }; last = record { mask = 0 } }))
 top_piled [] = sym empty_told
 top_piled (f ∷ fs) =
     let n = length fs in
     let e : slice_get (f ∷ fs) (suc n - 1) ≡ Some (get_or (f ∷ fs) (suc n - 1) f) = slice_get-get_or (f ∷ fs) (suc n - 1) f (omega arith) in
     ap (λ l. top (piled l)) (popped (f ∷ fs) (take (suc n - 1) (f ∷ fs)) (get_or (f ∷ fs) (suc n - 1) f) (sym e) refl)
     ∙ ap top (piled_put (take (suc n - 1) (f ∷ fs)) (get_or (f ∷ fs) (suc n - 1) f))
-    ∙ sym (ap (λ r. summary_of (unwrap_or r (record { nullable = true; first = 0; last = 0 }))) e)
+    ∙ sym (ap (λ r. summary_of (unwrap_or r (record { nullable = true; first = record { mask = 0 }; last = record { mask = 0 } }))) e)

@@ -31,7 +31,7 @@ from_zero x n = grind (arith, nat_tests)
 -- the positions that the masks give to a residue, whatever the name
 abbrev pub next : Automaton → ℕ → ℕ → Bool
 next a at y =
-    some 62 (λ x. bit at x && link_of a.follow x y) || ((bit at 62 && bit a.reads.first y) || (bit at 63 && bit a.writes.first y))
+    some 62 (λ x. bit at x && link_of a.follow x y) || ((bit at 62 && bit a.reads.first.mask y) || (bit at 63 && bit a.writes.first.mask y))
 
 -- the positions whose letters stand for the name
 abbrev pub matched : List Held → Name → ℕ → Bool
@@ -69,7 +69,7 @@ module _ (a : Automaton) where
         let out : is_some (rest W (size R) y) ≡ false = let k = rest_some W (size R) y in grind (arith, nat_tests) in
         got y
         ∙ reached_by R 0 (letter_at held) (bit at) (bit at 62) p y
-        (λ x. link_of a.follow x y) ((bit at 62 && bit a.reads.first y) || (bit at 63 && bit a.writes.first y)) (matched held p y)
+        (λ x. link_of a.follow x y) ((bit at 62 && bit a.reads.first.mask y) || (bit at 63 && bit a.writes.first.mask y)) (matched held p y)
         (λ x l. let k = a.links x y l in let n = not_follow W (size R) x y out in grind arith)
         (let k = ap (λ s. s.first y) a.read in let m = ap (λ s. s.first y) a.write in let n = not_first W (size R) y out in grind arith)
         (fit y (omega arith))
@@ -80,7 +80,7 @@ module _ (a : Automaton) where
         let out : is_some (rest R 0 y) ≡ false = let k = rest_some R 0 y in let m = rest_some W (size R) y in grind (arith, nat_tests) in
         got y
         ∙ reached_by W (size R) (letter_at held) (bit at) (bit at 63) p y
-        (λ x. link_of a.follow x y) ((bit at 62 && bit a.reads.first y) || (bit at 63 && bit a.writes.first y)) (matched held p y)
+        (λ x. link_of a.follow x y) ((bit at 62 && bit a.reads.first.mask y) || (bit at 63 && bit a.writes.first.mask y)) (matched held p y)
         (λ x l. let k = a.links x y l in let n = not_follow R 0 x y out in grind arith)
         (let k = ap (λ s. s.first y) a.read in let m = ap (λ s. s.first y) a.write in let n = not_first R 0 y out in grind arith)
         (fit y low)
@@ -121,13 +121,13 @@ module _ (a : Automaton) where
         let out : is_some (rest W (size R) x) ≡ false = let s = rest_some W (size R) x in grind (arith, nat_tests) in
         sym (rest_ends W (size R) x) ∙ nothing_ends (rest W (size R) x) out
 
-    pub writes_empty : writes_left a at [] ≡ (some 64 (λ x. bit at x && bit a.writes.last x) || (bit at 63 && a.writes.nullable))
+    pub writes_empty : writes_left a at [] ≡ (some 64 (λ x. bit at x && bit a.writes.last.mask x) || (bit at 63 && a.writes.nullable))
     unfolding writes_left
     writes_empty =
-        let out : (x : ℕ) → 62 ≤ x → (bit at x && bit a.writes.last x) ≡ false =
+        let out : (x : ℕ) → 62 ≤ x → (bit at x && bit a.writes.last.mask x) ≡ false =
         λ x l. let m = ap (λ s. s.last x) a.write in let k = last_below x l in grind arith in
         let met =
-        some_positions (λ x. bit at x && bit a.writes.last x) (out 62 (omega arith)) (out 63 (omega arith))
+        some_positions (λ x. bit at x && bit a.writes.last.mask x) (out 62 (omega arith)) (out 63 (omega arith))
         ∙ some_same 62 _ (λ x. bit at x && last W (size R) x) (λ x l. ap (λ b. bit at x && b) (ap (λ s. s.last x) a.write)) in
         (positions_tell_the_empty_path W (size R) (bit at) (bit at 63)).whole
         ∙ sym (λ i. met i || (bit at 63 && (a.write i).nullable))

@@ -11,7 +11,7 @@ use Rattle.automaton.specs.Positions.{first, last}
 use Rattle.automaton.specs.declared.facts.Facts.{Facts}
 
 abbrev pub summary_of : Facts → Summary
-summary_of f = record { nullable = f.nullable; first = bit f.first; last = bit f.last }
+summary_of f = record { nullable = f.nullable; first = bit f.first.mask; last = bit f.last.mask }
 
 -- what is known of a tree whose positions are numbered from i on
 abbrev pub summary : Expr → ℕ → Summary

@@ -11,7 +11,7 @@ use expression::letter::Letter;
 #[tactic(auto, using(crate::proofs::Masks::bit_of_zero, std::proofs::lemmas::Bool::Decides::nat_tests))]
 pub(crate) fn matching(letters: &[Letter], name: &[u8]) -> Positions
     requires { length letters.now ≤ 62 }
-    ensures { Marks result (λ x. nat_lt x (length letters.now) && fits (letter_at letters.now x) name.now) }
+    ensures { Marks result.mask (λ x. nat_lt x (length letters.now) && fits (letter_at letters.now x) name.now) }
 {
     let mut found = Positions::NONE;
     for (i, letter) in letters.iter().enumerate() {

@@ -11,7 +11,7 @@ use expression::trees::MAX_LETTERS;
 /// The positions that may follow one of the marked positions.
 #[tactic(auto, using(crate::proofs::Masks::bit_of_zero, crate::proofs::Sums::some_zero, crate::proofs::Sums::some_more))]
 pub(crate) fn followers(follow: &[u64; MAX_LETTERS], marked: Positions) -> Positions
-    ensures { Marks result (λ y. some 62 (λ x. bit marked x && link_of follow.now x y)) }
+    ensures { Marks result.mask (λ y. some 62 (λ x. bit marked.mask x && link_of follow.now x y)) }
 {
     let mut all = Positions::NONE;
     for (i, next) in follow.iter().enumerate() {
@@ -25,7 +25,7 @@ pub(crate) fn followers(follow: &[u64; MAX_LETTERS], marked: Positions) -> Posit
 /// Lets each position of `to` follow each position of `from`.
 #[tactic(auto, using(std::proofs::lemmas::Bool::Decides::nat_tests))]
 pub(crate) fn link(follow: &mut [u64; MAX_LETTERS], from: Positions, to: Positions)
-    ensures { link_of follow.new ≡ linked (bit from) (bit to) (link_of follow.old) }
+    ensures { link_of follow.new ≡ linked (bit from.mask) (bit to.mask) (link_of follow.old) }
 {
     for (i, next) in follow.iter_mut().enumerate() {
         if from.has(i) {

@@ -3,7 +3,6 @@ ghost use Rattle.std.specs.Prelude.{◌≡◌, ◌<◌, ◌&&◌, ◌||◌, nat_
 ghost use Rattle.automaton.specs.Bits.{bit, Marks};
 ghost use Rattle.automaton.specs.Positions.{some};
 
-use std::marker::Model;
 use std::ops::{BitAnd, BitOr, BitOrAssign};
 
 /// The number that stands for the start of the read tree.
@@ -12,21 +11,11 @@ pub const READ_START: usize = 62;
 /// The number that stands for the start of the write tree.
 pub const WRITE_START: usize = 63;
 
-/// A set of positions, which are below 62, and of starts.
+/// A set of positions, which are below 62, and of starts: the bits of the mask tell what is in it.
+// It has no `Model`: of a value that holds a struct with one, no proof is made where it is passed or stored twice.
 #[derive(Clone, Copy, PartialEq, Eq, Debug)]
 pub struct Positions {
     mask: u64,
-}
-
-// Clauses see the number, whose bits tell what is in the set.
-impl Model for Positions {
-    ghost use Rattle.std.specs.Prelude.{ℕ};
-
-    ghost Value = { ℕ };
-
-    ghost view = { λ p. p.mask };
-
-    ghost inverse = { λ n. record { mask = n } };
 }
 
 impl Positions {
@@ -37,7 +26,7 @@ impl Positions {
 
     /// The starts of both trees.
     pub fn starts() -> Positions
-        ensures { result ≡ starts }
+        ensures { result.mask ≡ starts }
     {
         Positions {
             mask: 1 << READ_START | 1 << WRITE_START,
@@ -46,7 +35,7 @@ impl Positions {
 
     /// The start of the read tree.
     pub fn read_start() -> Positions
-        ensures { result ≡ read_start }
+        ensures { result.mask ≡ read_start }
     {
         Positions {
             mask: 1 << READ_START,
@@ -60,7 +49,7 @@ impl Positions {
     #[tactic(auto, using(crate::proofs::Masks::bit_of_shift))]
     pub(crate) fn only(number: usize) -> Positions
         requires { number < 64 }
-        ensures { Marks result (λ x. nat_eq x number) }
+        ensures { Marks result.mask (λ x. nat_eq x number) }
     {
         Positions { mask: 1 << number }
     }
@@ -69,7 +58,7 @@ impl Positions {
     #[tactic(auto, using(crate::proofs::Masks::bit_below_shift))]
     pub(crate) fn below(end: usize) -> Positions
         requires { end < 64 }
-        ensures { Marks result (λ x. nat_lt x end) }
+        ensures { Marks result.mask (λ x. nat_lt x end) }
     {
         Positions {
             mask: (1 << end) - 1,
@@ -80,7 +69,7 @@ impl Positions {
     #[tactic(auto, using(crate::proofs::Masks::bit_test))]
     pub(crate) fn has(self, number: usize) -> bool
         requires { number < 64 }
-        ensures { result ≡ bit self number }
+        ensures { result ≡ bit self.mask number }
     {
         self.mask >> number & 1 == 1
     }
@@ -88,7 +77,7 @@ impl Positions {
     /// Whether a number is in both sets.
     #[tactic(auto, using(crate::proofs::Masks::meets_some))]
     pub(crate) fn meets(self, other: Positions) -> bool
-        ensures { result ≡ some 64 (λ x. bit self x && bit other x) }
+        ensures { result ≡ some 64 (λ x. bit self.mask x && bit other.mask x) }
     {
         self.mask & other.mask != 0
     }
@@ -96,7 +85,7 @@ impl Positions {
     /// The set itself where the test holds, and else the empty set.
     #[tactic(auto, using(crate::proofs::Masks::bit_of_zero))]
     pub(crate) fn when(self, test: bool) -> Positions
-        ensures { Marks result (λ x. test && bit self x) }
+        ensures { Marks result.mask (λ x. test && bit self.mask x) }
     {
         if test { self } else { Positions::NONE }
     }
@@ -104,7 +93,7 @@ impl Positions {
 
 /// The set of the bits of a number.
 impl From<u64> for Positions {
-    ghost from_gives = { λ mask set. set ≡ mask };
+    ghost from_gives = { λ mask set. set.mask ≡ mask };
 
     fn from(mask: u64) -> Positions {
         Positions { mask }
@@ -113,7 +102,7 @@ impl From<u64> for Positions {
 
 /// The number whose bits are the set.
 impl From<Positions> for u64 {
-    ghost from_gives = { λ set mask. mask ≡ set };
+    ghost from_gives = { λ set mask. mask ≡ set.mask };
 
     fn from(set: Positions) -> u64 {
         set.mask
@@ -124,7 +113,7 @@ impl From<Positions> for u64 {
 impl BitOr for Positions {
     type Output = Positions;
 
-    ghost bitor_gives = { λ a b both. Marks both (λ x. bit a x || bit b x) };
+    ghost bitor_gives = { λ a b both. Marks both.mask (λ x. bit a.mask x || bit b.mask x) };
 
     #[tactic(auto, using(crate::proofs::Masks::bit_of_or))]
     fn bitor(self, other: Positions) -> Positions {
@@ -135,7 +124,7 @@ impl BitOr for Positions {
 }
 
 impl BitOrAssign for Positions {
-    ghost bitor_assign_gives = { λ old other new. Marks new (λ x. bit old x || bit other x) };
+    ghost bitor_assign_gives = { λ old other new. Marks new.mask (λ x. bit old.mask x || bit other.mask x) };
 
     fn bitor_assign(&mut self, other: Positions) {
         *self = *self | other;
@@ -146,7 +135,7 @@ impl BitOrAssign for Positions {
 impl BitAnd for Positions {
     type Output = Positions;
 
-    ghost bitand_gives = { λ a b common. Marks common (λ x. bit a x && bit b x) };
+    ghost bitand_gives = { λ a b common. Marks common.mask (λ x. bit a.mask x && bit b.mask x) };
 
     #[tactic(auto, using(crate::proofs::Masks::bit_of_and))]
     fn bitand(self, other: Positions) -> Positions {

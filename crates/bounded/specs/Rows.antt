@@ -1,6 +1,9 @@
 -- What a row holds: the entries that fill its places from the first on, and what the other places hold.
-use Rattle.std.specs.Prelude.{List}
+use Rattle.std.specs.Prelude.{ℕ, List, take, drop}
+use Rattle.bounded.specs.declared.row.Row.{Row}
 
-pub record Row (T : Type 0) : Type 0 where
-  pub entries : List T
-  pub spare : List T
+abbrev pub entries_of : {T : Type 0} {N : ℕ} → Row T N → List T
+entries_of r = take r.used r.places
+
+abbrev pub spare_of : {T : Type 0} {N : ℕ} → Row T N → List T
+spare_of r = drop r.used r.places

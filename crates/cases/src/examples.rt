@@ -110,14 +110,31 @@ fn name(bytes: &[u8]) -> Result<Name, Fail> {
 #[test]
 fn paths_of_names_are_permitted(rt: HostRuntime) -> Result<(), Fail> {
     let contract = by_texts(b"depot.?", b"depot.free")?;
-    let names = [name(b"depot")?, name(b"free")?];
-    let path = &names[..];
-    let whole = permits_names(&contract, path);
+    let path = [name(b"depot")?, name(b"free")?];
+    let whole = permits_names(&contract, &path);
     assert_eq!(rt; (whole.read, whole.write), (true, true));
     let first = permits_names(&contract, &path[0..1]);
     assert_eq!(rt; (first.read, first.write), (true, false));
     let second = permits_names(&contract, &path[1..2]);
     assert_eq!(rt; (second.read, second.write), (false, false));
+    Ok(())
+}
+
+fn letters_in(name: Name) -> usize {
+    name.as_bytes().len()
+}
+
+#[test]
+fn values_are_copied(rt: HostRuntime) -> Result<(), Fail> {
+    let depot = name(b"depot")?;
+    assert_eq!(rt; (letters_in(depot), letters_in(depot)), (5, 5));
+    let path = [depot, depot];
+    let contract = by_texts(b"depot.depot", b"()")?;
+    let twice = Both {
+        left: contract,
+        right: contract,
+    };
+    assert_eq!(rt; permits_names(&twice, &path).read, true);
     Ok(())
 }
 

@@ -134,12 +134,15 @@ fn answer(heap: Global, line: &str) -> Result<String, AllocError> {
     let third = bytes_of(heap, fields.next().unwrap_or("-"))?;
     let fourth = bytes_of(heap, fields.next().unwrap_or("-"))?;
     let fifth = bytes_of(heap, fields.next().unwrap_or("-"))?;
-    let left = expression_of(second.as_slice(), third.as_slice());
     match kind {
         "contract" => reading_text(heap, Trees::parse(first.as_slice(), second.as_slice())),
         "depth" => permission_text(heap, &depth_of(second.as_slice()), first.as_slice()),
-        "expression" => permission_text(heap, &left, first.as_slice()),
+        "expression" => {
+            let contract = expression_of(second.as_slice(), third.as_slice());
+            permission_text(heap, &contract, first.as_slice())
+        }
         "both" => {
+            let left = expression_of(second.as_slice(), third.as_slice());
             let right = expression_of(fourth.as_slice(), fifth.as_slice());
             permission_text(heap, &Both { left, right }, first.as_slice())
         }

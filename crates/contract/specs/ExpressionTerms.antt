@@ -1,6 +1,7 @@
 -- What a contract by two path expressions permits.
 use Rattle.std.specs.Prelude.{◌≡◌, ℕ, Bool, true, false, ◌↔◌, [], ◌∷◌, ◌++◌, Some, None, Ok, Err, Option, Result}
 use Rattle.automaton.specs.Residues.{reads_left, writes_left}
+use Rattle.automaton.specs.declared.positions.Positions.{Positions}
 use Rattle.expression.specs.Expressions.{Expr}
 use Rattle.expression.specs.Languages.{In, begins, accepts}
 use Rattle.expression.specs.Reading.{Reading, trees, refusal}
@@ -12,8 +13,8 @@ use Rattle.contract.specs.Terms.{Terms}
 use Rattle.contract.specs.declared.expressions.Expression.{Expression}
 
 -- at a residue: the paths that it leaves
-abbrev pub expression_terms : Expression → ℕ → Terms
-expression_terms c r = record { reads = reads_left c.automaton r; writes = writes_left c.automaton r }
+abbrev pub expression_terms : Expression → Positions → Terms
+expression_terms c r = record { reads = reads_left c.automaton r.mask; writes = writes_left c.automaton r.mask }
 
 -- from the start
 abbrev pub start_terms : Expression → Terms

@@ -3,6 +3,7 @@ use Rattle.std.specs.Prelude.{◌≡◌, ℕ, true, [], ◌∷◌, is_some, None
 use Rattle.std.proofs.Common.{ap, ◌∙◌}
 use Rattle.automaton.specs.Residues.{starts, read_start, trees_of, reads_left, writes_left}
 use Rattle.automaton.specs.declared.automaton.Automaton.{Automaton}
+use Rattle.automaton.specs.declared.positions.Positions.{Positions}
 use Rattle.automaton.proofs.Laws.{beginnings_are_left, residues_are_lawful, starts_leave_all}
 use Rattle.expression.specs.Expressions.{empty}
 use Rattle.expression.specs.Held.{read_tree, write_tree}
@@ -13,11 +14,11 @@ use Rattle.contract.specs.Terms.{Terms, Orderly}
 use Rattle.contract.specs.declared.expressions.Expression.{Expression}
 use Rattle.contract.specs.Quotients.{same_terms}
 
-pub orderly : (c : Expression) (r : ℕ) → Orderly (expression_terms c r)
+pub orderly : (c : Expression) (r : Positions) → Orderly (expression_terms c r)
 orderly c r = record {
-  beginnings = beginnings_are_left c.automaton r;
-  readable_lawful = λ p. (residues_are_lawful c.automaton r p).reads;
-  writable_lawful = λ p. (residues_are_lawful c.automaton r p).writes;
+  beginnings = beginnings_are_left c.automaton r.mask;
+  readable_lawful = λ p. (residues_are_lawful c.automaton r.mask p).reads;
+  writable_lawful = λ p. (residues_are_lawful c.automaton r.mask p).writes;
 }
 
 -- what a residue leaves

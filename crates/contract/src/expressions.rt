@@ -15,7 +15,7 @@ use expression::trees::Trees;
 pub struct Expression {
     automaton: Automaton,
     start: Positions,
-    ghost opens: { reads_left automaton start [] ≡ true },
+    ghost opens: { reads_left automaton start.mask [] ≡ true },
 }
 
 impl Expression {

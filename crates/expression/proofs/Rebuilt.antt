@@ -66,10 +66,10 @@ module _ {read write : List ℕ} {l m k : List Letter} {o u : List Operation} (n
   pub reads_formed : formed o n 0 ≡ true
   reads_formed = (λ i. formed (reads.operations i) (first_count i) 0) ∙ tree_formed reads.tree
 
-  pub writes_formed : formed u (length k - n) 0 ≡ true
-  writes_formed =
-      let sum = ap length all_letters ∙ length-append (leaves reads.tree) (leaves writes.tree) in
-      let left : length k - n ≡ length (leaves writes.tree) = omega (arith, first_count, sum) in
+  pub writes_formed : (all : ℕ) → all ≡ length k → formed u (all - n) 0 ≡ true
+  writes_formed all is =
+      let sum = is ∙ ap length all_letters ∙ length-append (leaves reads.tree) (leaves writes.tree) in
+      let left : all - n ≡ length (leaves writes.tree) = omega (arith, first_count, sum) in
       (λ i. formed (writes.operations i) (left i) 0) ∙ tree_formed writes.tree
 
 -- what the test of a text's length tells

@@ -1,6 +1,7 @@
 -- What the tables of two trees hold.
 use Rattle.std.proofs.Common.{◌≡◌, true, ◌++◌, length, take, drop, sym, ap, ◌∙◌, arith}
 use Rattle.std.proofs.lemmas.List.{length-map, length-take-le, length-drop, take-append-drop}
+use Rattle.bounded.specs.Rows.{entries_of}
 use Rattle.expression.specs.Held.{read_tree, write_tree, tree_of, held_tree}
 use Rattle.expression.specs.Tables.{letter_of, letters_of, postfix, leaves, formed}
 use Rattle.expression.specs.declared.texts.Text.{Text}
@@ -9,8 +10,8 @@ use Rattle.expression.specs.declared.trees.Trees.{Trees}
 use Rattle.expression.proofs.Formed.{tree_operations, tree_letters}
 
 module _ (t : Trees) where
-  count : length (letters_of t.letters) ≡ length t.letters.entries
-  count = length-map t.letters.entries letter_of
+  count : length (letters_of t.letters) ≡ length (entries_of t.letters)
+  count = length-map (entries_of t.letters) letter_of
 
   -- how many letters each text has
   read_count : length (take t.read.letters (letters_of t.letters)) ≡ t.read.letters
@@ -19,13 +20,13 @@ module _ (t : Trees) where
   write_count : length (drop t.read.letters (letters_of t.letters)) ≡ t.write.letters
   write_count = let all = t.all in length-drop t.read.letters (letters_of t.letters) ∙ omega (arith, count)
 
-  reads : formed t.read.operations.entries (length (take t.read.letters (letters_of t.letters))) 0 ≡ true
-  reads = ap (λ n. formed t.read.operations.entries n 0) read_count ∙ t.read.formed
+  reads : formed (entries_of t.read.operations) (length (take t.read.letters (letters_of t.letters))) 0 ≡ true
+  reads = ap (λ n. formed (entries_of t.read.operations) n 0) read_count ∙ t.read.formed
 
-  writes : formed t.write.operations.entries (length (drop t.read.letters (letters_of t.letters))) 0 ≡ true
-  writes = ap (λ n. formed t.write.operations.entries n 0) write_count ∙ t.write.formed
+  writes : formed (entries_of t.write.operations) (length (drop t.read.letters (letters_of t.letters))) 0 ≡ true
+  writes = ap (λ n. formed (entries_of t.write.operations) n 0) write_count ∙ t.write.formed
 
-  pub operations_are : (text : Text) → (held_tree text t).operations.entries ≡ postfix (tree_of text t)
+  pub operations_are : (text : Text) → entries_of (held_tree text t).operations ≡ postfix (tree_of text t)
   operations_are Read = sym (tree_operations _ _ reads)
   operations_are Write = sym (tree_operations _ _ writes)
 

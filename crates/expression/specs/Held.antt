@@ -1,5 +1,6 @@
 -- What the code holds of a contract that was read, and what it tells of one that was refused.
 use Rattle.std.specs.Prelude.{[], take, drop, Ok, Err, Result}
+use Rattle.bounded.specs.Rows.{entries_of}
 use Rattle.expression.specs.Expressions.{Expr}
 use Rattle.expression.specs.Reading.{Reading, trees, refusal}
 use Rattle.expression.specs.Tables.{letters_of, build}
@@ -11,10 +12,10 @@ use Rattle.expression.specs.declared.trees.Tree.{Tree}
 use Rattle.expression.specs.declared.trees.Trees.{Trees}
 
 abbrev pub read_tree : Trees → Expr
-read_tree t = build t.read.operations.entries (take t.read.letters (letters_of t.letters)) []
+read_tree t = build (entries_of t.read.operations) (take t.read.letters (letters_of t.letters)) []
 
 abbrev pub write_tree : Trees → Expr
-write_tree t = build t.write.operations.entries (drop t.read.letters (letters_of t.letters)) []
+write_tree t = build (entries_of t.write.operations) (drop t.read.letters (letters_of t.letters)) []
 
 -- what the code holds of one of the texts, and its tree
 abbrev pub held_tree : Text → Trees → Tree

@@ -1,15 +1,13 @@
 -- What the parser's functions promise. Each reads one part of the grammar from where the reader stands, and writes the
 -- operations and the letters of its tree.
 use Rattle.std.specs.Prelude.{◌≡◌, ℕ, ◌+◌, ◌<◌, ◌≤◌, Bool, true, cond, not, ◌&&◌, List, ◌++◌, length, Some, None, Ok, Err, Option, Result, ◌==◌}
-use Rattle.bounded.specs.Rows.{Row}
 use Rattle.lexer.specs.Readers.{text_of, place_of, language_of, tokens_from, next_of}
 use Rattle.lexer.specs.Tokens.{Lexeme, name, number, sign, equals, end, bad, is_the_sign}
 use Rattle.lexer.specs.declared.reader.Reader.{Reader}
 use Rattle.lexer.specs.declared.refusal.Refusal.{Refusal}
 use Rattle.expression.specs.Expressions.{Letter, any, named, Expr}
 use Rattle.expression.specs.Reading.{Level, blank, Here, wanting, holding, starred, state, read, Outcome, accepted, refused, read_text}
-use Rattle.expression.specs.Tables.{letters_of, postfix, leaves}
-use Rattle.expression.specs.declared.letter.Letter.{Letter as Held}
+use Rattle.expression.specs.Tables.{postfix, leaves}
 use Rattle.expression.specs.declared.operation.Operation.{Operation}
 
 -- the letter that a token is
@@ -82,7 +80,3 @@ pub record Whole (text : List ℕ) (l m : List Letter) (o : List Operation) : Ty
   pub is : read_text (length l) text ≡ accepted tree (length m)
   pub operations : o ≡ postfix tree
   pub letters : m ≡ l ++ leaves tree
-
-abbrev pub TextRead : List ℕ → Row Held → Result (Row Operation × Row Held) Refusal → Type 0
-TextRead text l (Ok made) = Whole text (letters_of l) (letters_of made.1) made.0.entries
-TextRead text l (Err x) = read_text (length (letters_of l)) text ≡ refused x.reason x.place

@@ -1,6 +1,7 @@
 -- Trees as operations in postfix order and a row of letters.
 use Rattle.std.specs.Prelude.{ℕ, ◌+◌, ◌-◌, Bool, ◌&&◌, List, [], ◌∷◌, ◌++◌, map, ◌==◌, nat_le}
-use Rattle.bounded.specs.Rows.{Row}
+use Rattle.bounded.specs.Rows.{entries_of}
+use Rattle.bounded.specs.declared.row.Row.{Row}
 use Rattle.lexer.specs.Spelled.{spelled}
 use Rattle.expression.specs.Expressions.{Letter, any, named, Expr, empty, letter, alternative, sequence, star}
 use Rattle.expression.specs.declared.letter.Letter.{Letter as Held}
@@ -14,8 +15,8 @@ letter_of Any = any
 letter_of (Named n) = named (spelled n)
 
 -- the letters that a row holds
-abbrev pub letters_of : Row Held → List Letter
-letters_of r = map letter_of r.entries
+abbrev pub letters_of : Row Held 62 → List Letter
+letters_of r = map letter_of (entries_of r)
 
 -- the operations of a tree: those of its parts, and then its own
 unfoldable pub postfix : Expr → List Operation

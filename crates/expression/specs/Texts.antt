@@ -1,13 +1,7 @@
 -- The texts of a contract: their numbers, and what is told of one that is refused.
-use Rattle.std.specs.Prelude.{◌≡◌, ℕ, cond, List, ◌++◌, length, Ok, Err, Result, nat_le, codes, decimal}
-use Rattle.bounded.specs.Rows.{Row}
+use Rattle.std.specs.Prelude.{ℕ, cond, List, ◌++◌, length, Ok, Err, Result, nat_le, codes, decimal}
 use Rattle.lexer.specs.Refusals.{number_of}
 use Rattle.lexer.specs.declared.refusal.Reason.TheVariants.{Long}
-use Rattle.expression.specs.Parsing.{Whole}
-use Rattle.expression.specs.Reading.{refused, read_text}
-use Rattle.expression.specs.Tables.{letters_of}
-use Rattle.expression.specs.declared.letter.Letter.{Letter as Held}
-use Rattle.expression.specs.declared.operation.Operation.{Operation}
 use Rattle.expression.specs.declared.texts.Text.{Text}
 use Rattle.expression.specs.declared.texts.Text.TheVariants.{Read, Write}
 use Rattle.expression.specs.declared.texts.TextRefusal.{TextRefusal}
@@ -19,11 +13,6 @@ text_number Write = 2
 -- a text of more than 400 bytes is refused
 abbrev pub long_in : Text → List ℕ → Result (Unit {0}) TextRefusal
 long_in text bytes = cond (nat_le (length bytes) 400) (Ok tt) (Err (record { reason = Long; text = text; place = 0 }))
-
--- one of the texts was read after some letters, or is refused
-abbrev pub OneRead : Text → List ℕ → Row Held → Result (Row Operation × Row Held) TextRefusal → Type 0
-OneRead text bytes l (Ok made) = Whole bytes (letters_of l) (letters_of made.1) made.0.entries
-OneRead text bytes l (Err x) = (read_text (length (letters_of l)) bytes ≡ refused x.reason x.place) × (x.text ≡ text)
 
 -- what is written of a refusal
 abbrev pub told : TextRefusal → List ℕ

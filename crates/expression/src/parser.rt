@@ -1,8 +1,9 @@
 //! Reading the text of a path expression into operations and letters.
-ghost use Rattle.std.specs.Prelude.{◌≡◌, ◌<◌, ◌≤◌, length, Some};
+ghost use Rattle.std.specs.Prelude.{◌≡◌, ◌<◌, ◌≤◌, [], length, Some};
 ghost use Rattle.lexer.specs.Readers.{place_of, next_of};
 ghost use Rattle.lexer.specs.Tokens.{sign};
-ghost use Rattle.expression.specs.Parsing.{TextRead, Fits, letter_at, base_part, item_part, sequence_part, alternative_part};
+ghost use Rattle.bounded.specs.Rows.{entries_of};
+ghost use Rattle.expression.specs.Parsing.{Fits, letter_at, base_part, item_part, sequence_part, alternative_part};
 ghost use Rattle.expression.specs.Tables.{letter_of};
 
 use crate::letter::Letter;
@@ -13,23 +14,37 @@ use lexer::reader::Reader;
 use lexer::refusal::{Reason, Refusal};
 use lexer::token::{Language, Token};
 
-/// Goes through a text and writes down the operations and the letters of its tree; so many brackets are open.
+/// Goes through a text and writes down the operations of its tree, and its letters after those of the texts before; `depth`
+/// brackets are open.
 #[derive(Drop)]
-struct Parser<'a> {
+pub(crate) struct Parser<'a> {
     reader: Reader<'a>,
-    operations: Operations,
-    letters: Letters,
+    pub(crate) operations: Operations,
+    pub(crate) letters: Letters,
     depth: usize,
-    ghost fits: { Fits reader operations.entries },
+    ghost fits: { Fits reader (entries_of operations) },
     ghost shallow: { depth ≤ 16 },
 }
 
 impl<'a> Parser<'a> {
-    ghost use Rattle.expression.specs.Steps.{Reads, Emits};
+    ghost use Rattle.expression.specs.Steps.{Reads, Emits, TextRead};
+    ghost use Rattle.expression.specs.Tables.{letters_of};
+
+    /// A parser that has read nothing.
+    pub(crate) fn new() -> Parser<'a>
+        ensures { letters_of result.letters ≡ [] }
+    {
+        Parser {
+            reader: Reader::new(b"", Language::PathExpression),
+            operations: Operations::new(Operation::Empty),
+            letters: Letters::new(Letter::Any),
+            depth: 0,
+        }
+    }
 
     /// Writes down an operation, for which a byte was read.
     fn emit(&mut self, operation: Operation)
-        requires { length self.old.operations.entries < place_of self.old.reader }
+        requires { length (entries_of self.old.operations) < place_of self.old.reader }
         ensures { Emits operation self.old self.new }
     {
         let _ = self.operations.push(operation);
@@ -130,23 +145,20 @@ impl<'a> Parser<'a> {
         }
         Ok(())
     }
-}
 
-/// Reads a whole text, which has at most 400 bytes, and adds its letters to those before.
-pub(crate) fn read_text(text: &[u8], letters: Letters) -> Result<(Operations, Letters), Refusal>
-    requires { length text.now ≤ 400 }
-    ensures { TextRead text.now letters result }
-{
-    let mut parser = Parser {
-        reader: Reader::new(text, Language::PathExpression),
-        operations: Operations::new(Operation::Empty),
-        letters,
-        depth: 0,
-    };
-    parser.alternative()?;
-    let next = parser.reader.peek();
-    match next.token {
-        Token::End => Ok((parser.operations, parser.letters)),
-        _ => Err(next.misplaced()),
+    /// Reads a whole text, which has at most 400 bytes, and adds its letters to those before.
+    pub(crate) fn read_text(&mut self, text: &'a [u8]) -> Result<(), Refusal>
+        requires { length text.now ≤ 400 }
+        ensures { TextRead text.now self.old self.new result }
+    {
+        self.operations.clear();
+        self.reader = Reader::new(text, Language::PathExpression);
+        self.depth = 0;
+        self.alternative()?;
+        let next = self.reader.peek();
+        match next.token {
+            Token::End => Ok(()),
+            _ => Err(next.misplaced()),
+        }
     }
 }

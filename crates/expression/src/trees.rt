@@ -1,13 +1,15 @@
 //! The trees of a contract's two texts.
 ghost use Rattle.std.specs.Prelude.{◌≡◌, ◌+◌, ◌≤◌, ◌++◌, true, map, length};
+ghost use Rattle.bounded.specs.Rows.{entries_of};
 ghost use Rattle.expression.specs.Expressions.{empty};
 ghost use Rattle.expression.specs.Reading.{read_contract};
 ghost use Rattle.expression.specs.Tables.{formed, postfix, leaves, letter_of};
-ghost use Rattle.expression.specs.Texts.{long_in, OneRead};
+ghost use Rattle.expression.specs.Steps.{OneRead};
+ghost use Rattle.expression.specs.Texts.{long_in};
 
 use crate::letter::Letter;
 use crate::operation::Operation;
-use crate::parser::read_text;
+use crate::parser::Parser;
 use crate::texts::{Text, TextRefusal};
 use bounded::row::Row;
 use lexer::refusal::Reason;
@@ -42,15 +44,11 @@ fn check_length(bytes: &[u8], text: Text) -> Result<(), TextRefusal>
 }
 
 /// Reads one of the texts, which has at most 400 bytes, and adds its letters to those before.
-fn read_one(
-    bytes: &[u8],
-    text: Text,
-    letters: Letters,
-) -> Result<(Operations, Letters), TextRefusal>
+fn read_one<'a>(parser: &mut Parser<'a>, bytes: &'a [u8], text: Text) -> Result<(), TextRefusal>
     requires { length bytes.now ≤ 400 }
-    ensures { OneRead text bytes.now letters result }
+    ensures { OneRead text bytes.now parser.old parser.new result }
 {
-    read_text(bytes, letters).map_err(|refusal| -> TextRefusal {
+    parser.read_text(bytes).map_err(|refusal| -> TextRefusal {
         TextRefusal {
             reason: refusal.reason,
             text,
@@ -64,7 +62,7 @@ fn read_one(
 struct Tree {
     operations: Operations,
     letters: usize,
-    ghost formed: { formed operations.entries letters 0 ≡ true },
+    ghost formed: { formed (entries_of operations) letters 0 ≡ true },
 }
 
 /// The trees of a read text and a write text, and their letters in one row.
@@ -73,8 +71,8 @@ pub struct Trees {
     read: Tree,
     write: Tree,
     letters: Letters,
-    ghost all: { length letters.entries ≡ read.letters + write.letters },
-    ghost few: { length letters.entries ≤ 62 },
+    ghost all: { length (entries_of letters) ≡ read.letters + write.letters },
+    ghost few: { length (entries_of letters) ≤ 62 },
 }
 
 impl Trees {
@@ -87,14 +85,13 @@ impl Trees {
     {
         let mut operations = Operations::new(Operation::Empty);
         let _ = operations.push(Operation::Empty);
-        let read = Tree {
+        let tree = Tree {
             operations,
             letters: 0,
         };
-        let write = read;
         Trees {
-            read,
-            write,
+            read: tree,
+            write: tree,
             letters: Letters::new(Letter::Any),
         }
     }
@@ -105,20 +102,21 @@ impl Trees {
     {
         check_length(read, Text::Read)?;
         check_length(write, Text::Write)?;
-        let (operations, letters) = read_one(read, Text::Read, Letters::new(Letter::Any))?;
+        let mut parser = Parser::new();
+        read_one(&mut parser, read, Text::Read)?;
         let first = Tree {
-            operations,
-            letters: letters.len(),
+            operations: parser.operations,
+            letters: parser.letters.len(),
         };
-        let (operations, letters) = read_one(write, Text::Write, letters)?;
+        read_one(&mut parser, write, Text::Write)?;
         let second = Tree {
-            operations,
-            letters: letters.len() - first.letters,
+            operations: parser.operations,
+            letters: parser.letters.len() - first.letters,
         };
         Ok(Trees {
             read: first,
             write: second,
-            letters,
+            letters: parser.letters,
         })
     }
 

@@ -16,8 +16,9 @@ pub enum Class {
     Sign,
 }
 
+// A static, and not a constant: each use of a constant array of an enum would build it anew.
 #[rattlefmt::skip]
-const CLASSES: [Class; 256] = [
+static CLASSES: [Class; 256] = [
     O, O, O, O, O, O, O, O, O, B, B, O, O, B, O, O,
     O, O, O, O, O, O, O, O, O, O, O, O, O, O, O, O,
     B, O, O, O, O, O, O, O, S, S, S, S, O, S, S, O,

@@ -1,6 +1,7 @@
 //! Names, and which bytes are a lawful one.
 ghost use Rattle.std.specs.Prelude.{◌≡◌, true, if◌then◌else◌, Some, None};
 ghost use Rattle.std.specs.Option.{option_map};
+ghost use Rattle.bounded.specs.Rows.{entries_of};
 ghost use Rattle.lexer.specs.Names.{plain, lawful};
 
 use crate::class::{Class, is_classed};
@@ -13,9 +14,8 @@ pub const MAX_NAME: usize = 24;
 fn is_plain(bytes: &[u8]) -> bool
     ensures { result ≡ plain bytes.now }
 {
-    bytes
-        .iter()
-        .all(|b| is_classed(*b, &[Class::Letter, Class::Digit]))
+    // By a pattern and not `is_classed`: this is asked of each byte of a name.
+    bytes.iter().all(|b| matches!(Class::from(*b), Class::Letter | Class::Digit))
 }
 
 /// Whether the bytes are a lawful name: 1 to 24, first a letter, then letters or digits.
@@ -34,7 +34,7 @@ pub fn is_lawful(bytes: &[u8]) -> bool
 #[derive(Clone, Copy)]
 pub struct Name {
     bytes: Row<u8, MAX_NAME>,
-    ghost ok: { lawful bytes.entries ≡ true },
+    ghost ok: { lawful (entries_of bytes) ≡ true },
 }
 
 impl Name {

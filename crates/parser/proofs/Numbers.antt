@@ -7,6 +7,7 @@ use Rattle.std.proofs.lemmas.Iterator.Adapters.{position_from-zero}
 use Rattle.std.proofs.lemmas.Slice.Eq.{bytes_eq-Decides}
 use Rattle.std.proofs.lemmas.List.{length_push, map-append}
 use Rattle.std.proofs.lemmas.Bool.{or_left, or_right, or_parts}
+use Rattle.bounded.specs.Rows.{entries_of}
 use Rattle.lexer.specs.Names.{Name}
 use Rattle.lexer.specs.Spelled.{spelled}
 use Rattle.lexer.specs.declared.name.Name.{Name as Held}
@@ -15,7 +16,7 @@ use Rattle.parser.specs.Numbering.{variables_of, index_of, Sought, Numbered}
 use Rattle.parser.specs.declared.variables.Variables.{Variables}
 
 pub few_variables : (v : Variables) → length (variables_of v) ≤ 16
-few_variables v = let few = v.few in omega (arith, length-map v.names.entries spelled)
+few_variables v = let few = v.few in omega (arith, length-map (entries_of v.names) spelled)
 
 -- a name is the same as itself
 same_name : (n : Name) → bytes_eq n n ≡ true

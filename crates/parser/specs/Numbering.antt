@@ -1,6 +1,7 @@
 -- The variables that the code holds, and their numbers.
 use Rattle.std.specs.Prelude.{◌≡◌, ℕ, suc, ◌<◌, ◌≤◌, true, false, cond, List, [], ◌∷◌, map, length, Some, None, Option}
 use Rattle.std.specs.Str.{bytes_eq}
+use Rattle.bounded.specs.Rows.{entries_of}
 use Rattle.lexer.specs.Names.{Name}
 use Rattle.lexer.specs.Spelled.{spelled}
 use Rattle.script.specs.Reading.{among, with_variable}
@@ -8,7 +9,7 @@ use Rattle.parser.specs.declared.variables.Variables.{Variables}
 
 -- the names of the variables
 abbrev pub variables_of : Variables → List Name
-variables_of v = map spelled v.names.entries
+variables_of v = map spelled (entries_of v.names)
 
 -- the number of a variable: how many stand before it
 unfoldable pub index_of : List Name → Name → ℕ

@@ -1,5 +1,6 @@
 //! The variables of a script, and their numbers.
 ghost use Rattle.std.specs.Prelude.{◌≡◌, ◌≤◌, true, [], ◌∷◌, length};
+ghost use Rattle.bounded.specs.Rows.{entries_of};
 ghost use Rattle.lexer.specs.Names.{lawful};
 ghost use Rattle.script.specs.Reading.{plan};
 
@@ -10,11 +11,10 @@ use lexer::name::Name;
 pub const MAX_VARIABLES: usize = 16;
 
 /// The names of a script's variables, in the order in which they first appear, `plan` before all.
-// It has no `Model`: a `Copy` type's model has to give its fields back, and the names alone do not.
 #[derive(Clone, Copy)]
 pub struct Variables {
     names: Row<Name, MAX_VARIABLES>,
-    ghost few: { length names.entries ≤ 16 },
+    ghost few: { length (entries_of names) ≤ 16 },
 }
 
 impl Variables {

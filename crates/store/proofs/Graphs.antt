@@ -1,5 +1,5 @@
 -- What a write of one cell does to the graph of cells over another, and so to what they mean.
-use Rattle.std.proofs.Common.{◌≡◌, ℕ, ◌+◌, ◌-◌, ◌<◌, List, length, take, set, Some, ap, ◌∙◌}
+use Rattle.std.proofs.Common.{◌≡◌, ℕ, ◌+◌, ◌-◌, ◌<◌, List, [], length, take, set, Some, ap, ◌∙◌}
 use mathlib.Core.Path.{fun_ext}
 use lib.Seq.{take-set-lt}
 use Rattle.std.proofs.lemmas.List.{take_more_set}
@@ -9,7 +9,12 @@ use Rattle.store.specs.Meaning.{Graph, Meaning, changed, set_in}
 use Rattle.store.specs.Records.{fits, last_place}
 use Rattle.store.specs.declared.cell.Cell.{Cell}
 use Rattle.store.specs.declared.value.Value.{Value}
+use Rattle.store.specs.declared.value.Value.TheVariants.{Nothing}
 use Rattle.store.proofs.Changes.{latest_pushed, latest_changed}
+
+-- the cell that stands for a place past the end
+abbrev pub none_there : Cell
+none_there = record { object = 0; bytes = []; len = 0; value = Nothing }
 
 -- meanings whose graphs agree on each property are one
 pub meaning_from : (objects left : ℕ) (g h : Graph) → ((p : ℕ) (q : Name) → g p q ≡ h p q) → ◌≡◌ {A = Meaning} (record { objects = objects; graph = g; left = left }) (record { objects = objects; graph = h; left = left })

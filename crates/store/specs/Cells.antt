@@ -1,5 +1,5 @@
 -- Cells: what each says, and the graph that they keep.
-use Rattle.std.specs.Prelude.{ℕ, List, [], replicate}
+use Rattle.std.specs.Prelude.{ℕ, min, List, take, replicate}
 use Rattle.lexer.specs.Names.{Name}
 use Rattle.store.specs.Meaning.{Graph}
 use Rattle.store.specs.Records.{Apart, fits, latest}
@@ -10,18 +10,19 @@ use Rattle.store.specs.declared.cell.Cell.{Cell}
 abbrev pub owner : Cell → ℕ
 owner c = c.object
 
+-- the bytes of the name
 abbrev pub called : Cell → Name
-called c = c.name.entries
+called c = take (min c.len 24) c.bytes
 
 abbrev pub value_of : Cell → Value
 value_of c = c.value
 
 -- a cell of no property
 abbrev pub blank_cell : Cell
-blank_cell = record { object = 0; name = record { entries = []; spare = replicate 24 0 }; value = Nothing }
+blank_cell = record { object = 0; bytes = replicate 24 0; len = 0; value = Nothing }
 
 abbrev pub with_value : Cell → Value → Cell
-with_value c v = record { object = c.object; name = c.name; value = v }
+with_value c v = record { object = c.object; bytes = c.bytes; len = c.len; value = v }
 
 -- no two of the first n cells are of one property
 abbrev pub CellsApart : List Cell → ℕ → Type 0

@@ -3,14 +3,15 @@ ghost use Rattle.std.specs.Prelude.{◌≡◌, take};
 
 use crate::search::Record;
 use crate::value::Value;
-use bounded::row::Row;
 use lexer::name::MAX_NAME;
 
 /// The value of one property, with the property's object and name.
 #[derive(Clone, Copy)]
 pub struct Cell {
     object: u16,
-    name: Row<u8, MAX_NAME>,
+    // An array and a count of one byte, and not a `Row`, whose count takes eight: the host lends a cell for each property.
+    bytes: [u8; MAX_NAME],
+    len: u8,
     pub value: Value,
 }
 
@@ -23,7 +24,8 @@ impl Cell {
     {
         Cell {
             object: 0,
-            name: Row::new(0),
+            bytes: [0; MAX_NAME],
+            len: 0,
             value: Value::Nothing,
         }
     }
@@ -35,9 +37,12 @@ impl Cell {
         ensures value { value_of result ≡ value }
     {
         let len = name.len().min(MAX_NAME);
+        let mut bytes = [0; MAX_NAME];
+        bytes[..len].copy_from_slice(&name[..len]);
         Cell {
             object,
-            name: Row::from_slice(0, &name[..len]).unwrap(),
+            bytes,
+            len: len as u8,
             value,
         }
     }
@@ -55,6 +60,7 @@ impl Record for Cell {
     }
 
     fn name(&self) -> &[u8] {
-        self.name.as_slice()
+        let len = usize::from(self.len).min(MAX_NAME);
+        &self.bytes[..len]
     }
 }

@@ -5,4 +5,4 @@ use Rattle.automaton.specs.Tells.{letter_at}
 use Rattle.automaton.proofs.letters.matching.Given as goal
 
 abbrev pub invariant-loop-i : goal.invariant-loop-i
-invariant-loop-i l = Marks l.found (λ x. ltb x l.i && fits (letter_at l.letters x) l.name)
+invariant-loop-i l = Marks l.found.mask (λ x. ltb x l.i && fits (letter_at l.letters x) l.name)

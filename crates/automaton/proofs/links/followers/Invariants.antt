@@ -5,4 +5,4 @@ use Rattle.automaton.specs.Tells.{link_of}
 use Rattle.automaton.proofs.links.followers.Given as goal
 
 abbrev pub invariant-loop-i : goal.invariant-loop-i
-invariant-loop-i l = Marks l.all (λ y. some l.i (λ x. bit l.marked x && link_of l.follow x y))
+invariant-loop-i l = Marks l.all.mask (λ y. some l.i (λ x. bit l.marked.mask x && link_of l.follow x y))

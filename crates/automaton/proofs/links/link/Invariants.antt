@@ -6,4 +6,4 @@ use Rattle.automaton.proofs.links.link.Given as goal
 abbrev pub invariant-loop-i : goal.invariant-loop-i
 invariant-loop-i l =
     (length l.follow ≡ 62)
-    × ((x y : ℕ) → link_of l.follow x y ≡ (link_of l.initial.follow x y || (ltb x l.i && (bit l.from x && bit l.to y))))
+    × ((x y : ℕ) → link_of l.follow x y ≡ (link_of l.initial.follow x y || (ltb x l.i && (bit l.from.mask x && bit l.to.mask y))))

@@ -5,11 +5,11 @@ use Rattle.automaton.proofs.automaton.Automaton.step.Goals as goal
 
 -- the mask that is returned
 got : (c : goal.After-bitand)
-    → Marks c.bitand.result (λ y. next c.args.self.now c.args.at y && matched c.letters.result.now c.args.name.now y)
+    → Marks c.bitand.result.mask (λ y. next c.args.self.now c.args.at.mask y && matched c.letters.result.now c.args.name.now y)
 got c y = grind arith
 
 pub returns : goal.returns
 returns c = record {
-  reads = reads_step c.args.self.now c.args.at c.args.name.now c.bitand.result c.letters.result.now c.letters.ensures.letters (got c);
-  writes = writes_step c.args.self.now c.args.at c.args.name.now c.bitand.result c.letters.result.now c.letters.ensures.letters (got c);
+  reads = reads_step c.args.self.now c.args.at.mask c.args.name.now c.bitand.result.mask c.letters.result.now c.letters.ensures.letters (got c);
+  writes = writes_step c.args.self.now c.args.at.mask c.args.name.now c.bitand.result.mask c.letters.result.now c.letters.ensures.letters (got c);
 }

@@ -1,4 +1,5 @@
 use Rattle.std.proofs.Common.{◌≡◌, ◌∷◌, ◌++◌, [], ap, ◌∙◌, arith, rules}
+use Rattle.bounded.specs.Rows.{entries_of}
 use Rattle.automaton.specs.Passes.{step}
 use Rattle.automaton.specs.States.{piled}
 use Rattle.automaton.specs.Tells.{link_of}
@@ -10,15 +11,16 @@ pub returns-clause-made : goal.returns-clause-made
 unfolding step
 returns-clause-made c =
     let s = c.match-operation.self in
+    let r = c.match-operation.operands in
     let f = c.match-operation.made in
-    let entries : c.push.new.self.entries ≡ s.operands.entries ++ f ∷ [] = search rules in
-    (λ i. record { pile = (ap piled entries ∙ piled_put s.operands.entries f) i; count = s.count; link = link_of s.follow })
+    let entries : entries_of c.push.new.self ≡ entries_of r ++ f ∷ [] = search rules in
+    (λ i. record { pile = (ap piled entries ∙ piled_put (entries_of r) f) i; count = s.count; link = link_of s.follow })
     ∙ elim c.match-operation.branch [
       | in-Empty w ↦ grind (arith, empty_told)
       | in-Letter w ↦ grind arith
       | in-Alternative+in-Some w ↦ grind (arith, piled_two)
       | in-Sequence+in-Some-pop_two w ↦ grind (arith, piled_two)
       | in-Star+in-Some-pop w ↦
-          let e = popped c.args.self.now.operands.entries w.pop.new.self.entries w.in-Some-pop.inner w.in-Some-pop.ensures.last w.in-Some-pop.ensures.entries in
+          let e = popped (entries_of c.args.operands.now) (entries_of w.pop.new.self) w.in-Some-pop.inner w.in-Some-pop.ensures.last w.in-Some-pop.ensures.entries in
           grind (arith, piled_put)
     ]

@@ -5,9 +5,9 @@ use Rattle.contract.specs.Opened.{given_terms, starts_open}
 use Rattle.contract.proofs.expressions.Expression.read.Goals as goal
 
 pub invariant_of-self : goal.invariant_of-self
-invariant_of-self c = record { opens = starts_open c.new.result c.starts.result c.starts.ensures }
+invariant_of-self c = record { opens = starts_open c.new.result c.starts.result.mask c.starts.ensures }
 
 pub returns-clause-after : goal.returns-clause-after
 returns-clause-after c =
-    given_terms c.new.result c.starts.result c.starts.ensures ∙ ap (λ t. by_trees (read_tree t) (write_tree t)) c.new.ensures
+    given_terms c.new.result c.starts.result.mask c.starts.ensures ∙ ap (λ t. by_trees (read_tree t) (write_tree t)) c.new.ensures
     ∙ ap (renewed (start_terms c.args.self.now)) c.in_ok-trees.ensures

@@ -1,11 +1,10 @@
-use Rattle.std.proofs.Common.{◌≡◌, ℕ, ◌<◌, true, cond, [], length, get_or, take_all, sym, ap, ◌∙◌, arith}
+use Rattle.std.proofs.Common.{◌≡◌, ℕ, ◌<◌, true, cond, length, get_or, take_all, sym, ap, ◌∙◌, arith}
 use Rattle.store.specs.Cells.{owner, called, with_value}
 use Rattle.store.specs.Meaning.{inside}
-use Rattle.store.specs.declared.cell.Cell.{Cell}
 use Rattle.store.specs.declared.value.Value.{Value}
 use Rattle.store.specs.declared.value.Value.TheVariants.{Nothing}
 use Rattle.store.proofs.Apart.{apart_over, apart_past, owner-found, called-found}
-use Rattle.store.proofs.Graphs.{meant_changed, meant_pushed}
+use Rattle.store.proofs.Graphs.{meant_changed, meant_pushed, none_there}
 use Rattle.overlay.specs.Over.{checked, read_in}
 use Rattle.overlay.proofs.overlay.Overlay.set.Goals as goal
 
@@ -18,7 +17,7 @@ invariant_of-self-in-Some g c =
     let t = c.args.self.now in
     let i = c.in-Some.i in
     let es = t.changes.entries in
-    let d : Cell = record { object = 0; name = record { entries = []; spare = [] }; value = c.args.value } in
+    let d = none_there in
     let x = get_or es i d in
     let y = with_value x c.args.value in
     let found = c.in-Some.ensures in
@@ -49,7 +48,7 @@ returns-in-Some g c =
     let t = c.args.self.now in
     let i = c.in-Some.i in
     let es = t.changes.entries in
-    let d : Cell = record { object = 0; name = record { entries = []; spare = [] }; value = c.args.value } in
+    let d = none_there in
     let y = with_value (get_or es i d) c.args.value in
     let found = c.in-Some.ensures in
     let is = c.change.ensures in

@@ -4,6 +4,7 @@ use Rattle.store.specs.Cells.{owner, called, graph_over}
 use Rattle.store.specs.Meaning.{get_test, if_passed}
 use Rattle.store.specs.Records.{fits}
 use Rattle.store.proofs.Latest.{latest_place, latest_none}
+use Rattle.store.proofs.Graphs.{none_there}
 use Rattle.overlay.specs.Over.{checked, read_in}
 use Rattle.overlay.proofs.overlay.OverlayStore.get.Goals as goal
 
@@ -15,7 +16,7 @@ returns-in-Some g c =
     let o = c.args.object in
     let n = c.args.name.now in
     let i = c.in-Some.i in
-    let d = c.index-self-i.result in
+    let d = none_there in
     let found = c.in-Some.ensures in
     let value = graph_over (read_in m.objects) m.graph xs o n in
     let read : value ≡ checked m.objects (get_or t.changes.entries i d).value =

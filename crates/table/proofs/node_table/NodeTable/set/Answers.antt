@@ -5,7 +5,7 @@ use Rattle.store.specs.Cells.{owner, called, value_of}
 use Rattle.store.specs.Meaning.{changed, inside}
 use Rattle.store.specs.declared.value.Value.TheVariants.{Nothing}
 use Rattle.store.proofs.Apart.{apart_over, apart_past}
-use Rattle.store.proofs.Graphs.{meaning_from, meant_changed, meant_pushed}
+use Rattle.store.proofs.Graphs.{meaning_from, meant_changed, meant_pushed, none_there}
 use Rattle.table.specs.Tables.{graph_of, used_of}
 use Rattle.table.specs.Usable.{holds}
 use Rattle.table.proofs.Steps.{graph_removed, graph_absent, apart_freed, holds_from}
@@ -16,18 +16,18 @@ invariant_of-self-in-Some c =
     let t = c.args.self.now in
     let cells = t.cells.now in
     let i = c.in-Some.i in
-    let z = get_or cells (t.used - 1) c.index-self-self.result in
+    let z = get_or cells (t.used - 1) none_there in
     let found = c.in-Some.ensures in
     let room = t.room in
     let within : i < length cells = omega (arith, found.within) in
-    let last : z ≡ get_or cells (t.used - 1) z = get_or_default cells (t.used - 1) c.index-self-self.result z (omega arith) in
+    let last : z ≡ get_or cells (t.used - 1) z = get_or_default cells (t.used - 1) none_there z (omega arith) in
     let some : t.used - 1 < t.used = omega (arith, found.within) in record {
       room = simp length-set (omega arith);
       some = t.some;
       few = t.few;
       apart = apart_freed cells t.used i z found.within (omega arith) last t.apart;
-      holding = AllWithin-upto (λ x. holds x.value ≡ true) (set cells i z) 0 t.used (t.used - 1) (omega arith) (AllWithin-set (λ x. holds x.value ≡ true) cells 0 t.used i z within (t.holding (t.used - 1) c.index-self-self.result (omega arith) some) t.holding);
-      closed = AllWithin-upto (λ x. inside t.objects x.value ≡ true) (set cells i z) 0 t.used (t.used - 1) (omega arith) (AllWithin-set (λ x. inside t.objects x.value ≡ true) cells 0 t.used i z within (t.closed (t.used - 1) c.index-self-self.result (omega arith) some) t.closed);
+      holding = AllWithin-upto (λ x. holds x.value ≡ true) (set cells i z) 0 t.used (t.used - 1) (omega arith) (AllWithin-set (λ x. holds x.value ≡ true) cells 0 t.used i z within (t.holding (t.used - 1) none_there (omega arith) some) t.holding);
+      closed = AllWithin-upto (λ x. inside t.objects x.value ≡ true) (set cells i z) 0 t.used (t.used - 1) (omega arith) (AllWithin-set (λ x. inside t.objects x.value ≡ true) cells 0 t.used i z within (t.closed (t.used - 1) none_there (omega arith) some) t.closed);
     }
 
 pub invariant_of-self-in-Some-place : goal.invariant_of-self-in-Some-place
@@ -72,10 +72,10 @@ returns-in-Some c =
     let t = c.args.self.now in
     let cells = t.cells.now in
     let i = c.in-Some.i in
-    let z = get_or cells (t.used - 1) c.index-self-self.result in
+    let z = get_or cells (t.used - 1) none_there in
     let found = c.in-Some.ensures in
     let room = t.room in
-    let last : z ≡ get_or cells (t.used - 1) z = get_or_default cells (t.used - 1) c.index-self-self.result z (omega (arith, found.within)) in
+    let last : z ≡ get_or cells (t.used - 1) z = get_or_default cells (t.used - 1) none_there z (omega (arith, found.within)) in
     let few : i < 4096 = omega (arith, found.within) in
     record {
       means =

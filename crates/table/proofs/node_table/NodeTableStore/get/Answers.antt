@@ -5,6 +5,7 @@ use Rattle.store.specs.Records.{fits}
 use Rattle.store.specs.declared.value.Value.TheVariants.{Nothing}
 use Rattle.store.proofs.Latest.{latest_place, latest_none}
 use Rattle.store.specs.Cells.{owner, called, value_of}
+use Rattle.store.proofs.Graphs.{none_there}
 use Rattle.table.specs.Tables.{graph_of, used_of}
 use Rattle.table.proofs.node_table.NodeTableStore.get.Goals as goal
 
@@ -14,7 +15,7 @@ returns-in-Some c =
     let o = c.args.object in
     let n = c.args.name.now in
     let i = c.in-Some.i in
-    let d = c.index-self-i.result in
+    let d = none_there in
     let found = c.in-Some.ensures in
     let value : graph_of (used_of t) o n ≡ (get_or t.cells.now i d).value =
     latest_place value_of (fits owner called o n) (used_of t) i d Nothing (sym found.place) ∙ ap value_of (get_or-take t.used t.cells.now i d found.within) in
