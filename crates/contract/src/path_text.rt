@@ -6,7 +6,7 @@ ghost use Rattle.std.specs.Prelude.{◌≡◌, Some};
 use crate::contract::Contract;
 pub use crate::permits::Permission;
 use crate::permits::permission_at;
-use lexer::class::{Class, is_classed};
+use lexer::class::{Class, is_classed, is_letter_or_digit};
 use lexer::name::MAX_NAME;
 use std::error::Error;
 use std::fmt;
@@ -44,7 +44,7 @@ pub fn permits_text<C: Contract>(contract: &C, text: &[u8]) -> Result<Permission
         } else if *b == b'.' {
             at = contract.step(at, &text[from..place]);
             from = place + 1;
-        } else if !is_classed(*b, &[Class::Letter, Class::Digit]) || place - from >= MAX_NAME {
+        } else if !is_letter_or_digit(*b) || place - from >= MAX_NAME {
             return Err(NoPath { place });
         }
     }

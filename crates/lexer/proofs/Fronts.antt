@@ -37,21 +37,15 @@ module _ (l : Language) (text : List ℕ) (at start : ℕ) (is : start ≡ past_
     lex_sign e s = at_class Sign e ∙ rw s
 
     -- no token
-    pub lex_number_none : class_of (get_or text start 0) ≡ Digit → numbers l ≡ false → lex l text at ≡ lexed bad start start
-    lex_number_none e n = at_class Digit e ∙ rw n
-
-    pub lex_sign_none : class_of (get_or text start 0) ≡ Sign → starts l (get_or text start 0) ≡ false → lex l text at ≡ lexed bad start start
-    lex_sign_none e s = at_class Sign e ∙ rw s
-
-    pub lex_none : (class_of (get_or text start 0) ≡ Letter → ⊥) → (class_of (get_or text start 0) ≡ Digit → ⊥) → (class_of (get_or text start 0) ≡ Sign → ⊥) → lex l text at ≡ lexed bad start start
-    lex_none a b c = at_byte ∙ go (class_of (get_or text start 0)) a b c
+    pub lex_bad : (class_of (get_or text start 0) ≡ Letter → ⊥) → (class_of (get_or text start 0) ≡ Digit → numbers l ≡ false) → (class_of (get_or text start 0) ≡ Sign → starts l (get_or text start 0) ≡ false) → lex l text at ≡ lexed bad start start
+    lex_bad a b c = at_byte ∙ go (class_of (get_or text start 0)) a b c
       where
-        go : (k : Class) → (k ≡ Letter → ⊥) → (k ≡ Digit → ⊥) → (k ≡ Sign → ⊥) → by_class l k start (get_or text start 0) (drop (start + 1) text) ≡ lexed bad start start
+        go : (k : Class) → (k ≡ Letter → ⊥) → (k ≡ Digit → numbers l ≡ false) → (k ≡ Sign → starts l (get_or text start 0) ≡ false) → by_class l k start (get_or text start 0) (drop (start + 1) text) ≡ lexed bad start start
         go Other a b c = refl
         go Blank a b c = refl
         go Letter a b c = absurd (a refl)
-        go Digit a b c = absurd (b refl)
-        go Sign a b c = absurd (c refl)
+        go Digit a b c = rw (b refl)
+        go Sign a b c = rw (c refl)
 
 -- a run of letters and digits is plain
 plain_run : (bs : List ℕ) (n : ℕ) → n ≤ prefix_len (classed letters_or_digits) bs → plain (take n bs) ≡ true

@@ -1,6 +1,6 @@
 //! The class of each byte.
 ghost use Rattle.std.specs.Prelude.{◌≡◌};
-ghost use Rattle.lexer.specs.Classes.{class_of, classed};
+ghost use Rattle.lexer.specs.Classes.{class_of, classed, letters_or_digits};
 
 use crate::class::Class::{Blank as B, Digit as D, Letter as L, Other as O, Sign as S};
 
@@ -52,4 +52,12 @@ pub fn is_classed(b: u8, classes: &[Class]) -> bool
 {
     let own = Class::from(b);
     classes.iter().any(|class| *class == own)
+}
+
+/// Whether a byte is a letter or a digit.
+pub fn is_letter_or_digit(b: u8) -> bool
+    ensures { result ≡ classed letters_or_digits b }
+{
+    // By a pattern and not `is_classed`: this is asked of each byte of a name, and so takes one comparison.
+    matches!(Class::from(b), Class::Letter | Class::Digit)
 }

@@ -4,7 +4,7 @@ ghost use Rattle.std.specs.Option.{option_map};
 ghost use Rattle.bounded.specs.Rows.{entries_of};
 ghost use Rattle.lexer.specs.Names.{plain, lawful};
 
-use crate::class::{Class, is_classed};
+use crate::class::{Class, is_classed, is_letter_or_digit};
 use bounded::row::Row;
 
 /// The most bytes that a name has.
@@ -14,8 +14,7 @@ pub const MAX_NAME: usize = 24;
 fn is_plain(bytes: &[u8]) -> bool
     ensures { result ≡ plain bytes.now }
 {
-    // By a pattern and not `is_classed`: this is asked of each byte of a name.
-    bytes.iter().all(|b| matches!(Class::from(*b), Class::Letter | Class::Digit))
+    bytes.iter().all(|b| is_letter_or_digit(*b))
 }
 
 /// Whether the bytes are a lawful name: 1 to 24, first a letter, then letters or digits.

@@ -4,7 +4,7 @@ ghost use Rattle.lexer.specs.Classes.{class_of, classed, letters_or_digits, digi
 ghost use Rattle.lexer.specs.Tokens.{lex, lexed, lexed_of, bad, named, numbered, signed, decimal, starts, numbers, Lies};
 ghost use Rattle.std.specs.List.{prefix_len};
 
-use crate::class::{Class, is_classed};
+use crate::class::{Class, is_classed, is_letter_or_digit};
 use crate::name::MAX_NAME;
 use crate::token::{Language, Placed, Token};
 
@@ -22,7 +22,15 @@ fn run_len(bytes: &[u8], classes: &[Class]) -> usize
         .count()
 }
 
-// A text and a place in it, here and in the three functions below: a struct of the two would hold the reader's own fields
+/// How many bytes from the front on are letters or digits.
+fn name_len(bytes: &[u8]) -> usize
+    ensures value { result ≡ prefix_len (classed letters_or_digits) bytes.now }
+    ensures within { result ≤ length bytes.now }
+{
+    bytes.iter().take_while(|b| is_letter_or_digit(**b)).count()
+}
+
+// A text and a place in it, here and in the four functions below: a struct of the two would hold the reader's own fields
 // again.
 
 /// Where the longest run of bytes of these classes ends that begins at `at`.
@@ -32,6 +40,15 @@ fn run_end(text: &[u8], at: usize, classes: &[Class]) -> usize
     ensures within { result ≤ length text.now }
 {
     at + run_len(&text[at..], classes)
+}
+
+/// Where the longest run of letters and digits ends that begins at `at`.
+fn name_end(text: &[u8], at: usize) -> usize
+    requires { at ≤ length text.now }
+    ensures ends { result ≡ at + prefix_len (classed letters_or_digits) (drop at text.now) }
+    ensures within { result ≤ length text.now }
+{
+    at + name_len(&text[at..])
 }
 
 /// The value of the digits, unless it passes the largest number.
@@ -87,7 +104,7 @@ fn name_at<'a>(text: &'a [u8], start: usize) -> Placed<'a>
     ensures is { lexed_of result ≡ named start (prefix_len (classed letters_or_digits) (drop start text.now)) (drop start text.now) }
     ensures lies { Lies text.now start result }
 {
-    let stop = run_end(text, start, &[Class::Letter, Class::Digit]);
+    let stop = name_end(text, start);
     if stop - start > MAX_NAME {
         return no_token(start);
     }
@@ -176,12 +193,18 @@ impl<'a> Reader<'a> {
                 stop: start,
             };
         }
-        match Class::from(text[start]) {
-            Class::Letter => name_at(text, start),
-            Class::Digit if has_numbers(self.language) => number_at(text, start),
-            Class::Sign if starts_token(self.language, text[start]) => sign_at(text, start),
-            _ => no_token(start),
+        // Three tests, and not a `match`: that went by a table of jumps, at each token.
+        let class = Class::from(text[start]);
+        if class == Class::Letter {
+            return name_at(text, start);
         }
+        if class == Class::Digit && has_numbers(self.language) {
+            return number_at(text, start);
+        }
+        if class == Class::Sign && starts_token(self.language, text[start]) {
+            return sign_at(text, start);
+        }
+        no_token(start)
     }
 
     /// The next token, which is passed: the reader then stands after it, or at a bad token.

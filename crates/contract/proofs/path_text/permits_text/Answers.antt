@@ -3,7 +3,7 @@ use Rattle.std.proofs.lemmas.Bool.{eqb-true, eqb-false}
 use Rattle.contract.specs.PathTexts.{spell, permitted, path}
 use Rattle.contract.proofs.Spelled.{from_start, empty_text, starts_name, wrong_start, ends_name, goes_on, wrong_byte, too_long, ends_text, ends_wrong, permitted_starting}
 use Rattle.contract.proofs.path_text.permits_text.Goals as goal
-use Rattle.contract.proofs.path_text.permits_text.Goals.{then-not-is_classed-2-via-then-not-is_classed-2, then-not-is_classed-2-via-else-not-is_classed-2+then-place-from-ge-MAX_NAME, then-place-from+else-not-is_classed, else-place-from+then-b-eq46, else-place-from+else-b-eq46+else-not-is_classed-2+else-place-from-ge-MAX_NAME}
+use Rattle.contract.proofs.path_text.permits_text.Goals.{then-not-is_letter_or_digit-via-then-not-is_letter_or_digit, then-not-is_letter_or_digit-via-else-not-is_letter_or_digit+then-place-from-ge-MAX_NAME, then-place-from+else-not-is_classed, else-place-from+then-b-eq46, else-place-from+else-b-eq46+else-not-is_letter_or_digit+else-place-from-ge-MAX_NAME}
 
 pub returns-then-is_empty : goal.returns-then-is_empty
 returns-then-is_empty g c =
@@ -30,15 +30,15 @@ returns-then-not-is_classed g c =
     sym (ap (permitted (k.terms own c.loop-place.at)) (wrong_start c.args.text.now c.loop-place.from c.loop-place.place c.loop-place-test.true (sym c.if-place-from.true) (sym c.if-not-is_classed.ensures)))
     ∙ c.loop-place.invariant.1
 
-pub returns-then-not-is_classed-2 : goal.returns-then-not-is_classed-2
-returns-then-not-is_classed-2 g c =
+pub returns-then-not-is_letter_or_digit : goal.returns-then-not-is_letter_or_digit
+returns-then-not-is_letter_or_digit g c =
     let k = g.C.Contract in
     let own = c.args.contract.now in
     let low = c.loop-place.invariant.0 in
     let inside : c.loop-place.from < c.loop-place.place = omega (arith, c.if-place-from.false) in
-    sym (ap (permitted (k.terms own c.loop-place.at)) (elim c.then-not-is_classed-2.branch [
-      | then-not-is_classed-2-via-then-not-is_classed-2 w ↦ wrong_byte c.args.text.now c.loop-place.from c.loop-place.place c.loop-place-test.true inside c.if-b-eq46.false (sym c.is_classed-else-b-eq46.ensures ∙ w.if-not-is_classed-2.true)
-      | then-not-is_classed-2-via-else-not-is_classed-2+then-place-from-ge-MAX_NAME w ↦ too_long c.args.text.now c.loop-place.from c.loop-place.place c.loop-place-test.true inside c.if-b-eq46.false w.if-place-from-ge-MAX_NAME.true
+    sym (ap (permitted (k.terms own c.loop-place.at)) (elim c.then-not-is_letter_or_digit.branch [
+      | then-not-is_letter_or_digit-via-then-not-is_letter_or_digit w ↦ wrong_byte c.args.text.now c.loop-place.from c.loop-place.place c.loop-place-test.true inside c.if-b-eq46.false (sym c.is_letter_or_digit.ensures ∙ w.if-not-is_letter_or_digit.true)
+      | then-not-is_letter_or_digit-via-else-not-is_letter_or_digit+then-place-from-ge-MAX_NAME w ↦ too_long c.args.text.now c.loop-place.from c.loop-place.place c.loop-place-test.true inside c.if-b-eq46.false w.if-place-from-ge-MAX_NAME.true
     ]))
     ∙ c.loop-place.invariant.1
 
@@ -65,10 +65,10 @@ loop-place-preserved g c =
             ∙ sym (ap (permitted (k.terms own c.loop-place.at)) (ends_name text from i c.loop-place-test.true (omega (arith, w.if-place-from.false)) w.if-b-eq46.true) ∙ permitted_starting _ _ _)
             ∙ c.loop-place.invariant.1,
       )
-      | else-place-from+else-b-eq46+else-not-is_classed-2+else-place-from-ge-MAX_NAME w ↦ (
+      | else-place-from+else-b-eq46+else-not-is_letter_or_digit+else-place-from-ge-MAX_NAME w ↦ (
         omega (arith, w.from-is),
         (λ j. goal (w.at-is j) (w.from-is j))
-            ∙ sym (ap (permitted (k.terms own c.loop-place.at)) (goes_on text from i c.loop-place-test.true (omega (arith, w.if-place-from.false)) w.if-b-eq46.false (sym w.is_classed-else-b-eq46.ensures ∙ w.if-not-is_classed-2.false) w.if-place-from-ge-MAX_NAME.false))
+            ∙ sym (ap (permitted (k.terms own c.loop-place.at)) (goes_on text from i c.loop-place-test.true (omega (arith, w.if-place-from.false)) w.if-b-eq46.false (sym w.is_letter_or_digit.ensures ∙ w.if-not-is_letter_or_digit.false) w.if-place-from-ge-MAX_NAME.false))
             ∙ c.loop-place.invariant.1,
       )
     ]
