@@ -27,6 +27,7 @@ fn name_len(bytes: &[u8]) -> usize
     ensures value { result ≡ prefix_len (classed letters_or_digits) bytes.now }
     ensures within { result ≤ length bytes.now }
 {
+    // Not `run_len` with two classes, which takes longer at each byte.
     bytes.iter().take_while(|b| is_letter_or_digit(**b)).count()
 }
 
